@@ -1,0 +1,95 @@
+-- Plans: their stores in order, one step, the finish, and a run of steps.
+-- Assumes nothing.
+use mathlib.Core.Bool.{Bool, true, false}
+use mathlib.Core.List.{List, [], _∷_, _++_, map}
+use Prim.Native.Nat.{ℕ, zero, suc, _+_}
+use lib.Dec.{eqb, leb, ltb}
+use lib.ListN.{length, getD, set, take, replicate}
+use Rattle.digits.specs.Choice.{pick}
+use Rattle.tree.specs.Stores.{Store}
+use Rattle.plan.specs.declared.Plan.{Plan}
+use Rattle.plan.specs.declared.Planned.{Planned}
+use Rattle.plan.specs.declared.Effect.{Effect}
+use Rattle.plan.specs.declared.Effect.the-variants.{Nothing, TakesLeaf, TakesBoth, FreesLeaf, FreesBoth}
+
+-- the words after all the stores, in their order
+unfoldable pub made : List Store → List ℕ → List ℕ
+made [] l = l
+made (s ∷ σ) l = made σ (set l (s .word) (s .value))
+
+-- "A plan holds at most 21 stores, each a word number and a value (unused places 0)"
+abbrev pub padded : List ℕ → List ℕ
+padded l = take 21 (l ++ replicate 21 0)
+
+abbrev pub planOf : List Store → Effect → Plan
+planOf σ e = record {
+  words = padded (map (λ (s : Store). s .word) σ);
+  values = padded (map (λ (s : Store). s .value) σ);
+  count = length σ;
+  effect = e;
+}
+
+-- what a planning call decides: the number it gives back, the stores, what they do to the map
+pub record Decided : Type 0 where
+  pub number : ℕ
+  pub stores : List Store
+  pub effect : Effect
+
+abbrev pub decided : List Store → Effect → Decided
+decided σ e = record { number = 0; stores = σ; effect = e }
+
+-- "Refusals give .. a plan that does nothing."
+abbrev pub refused : ℕ → Decided
+refused k = record { number = k; stores = []; effect = Nothing }
+
+abbrev pub plannedOf : Decided → Planned
+plannedOf d = record { number = d .number; plan = planOf (d .stores) (d .effect) }
+
+-- the number given back, and the words or bytes after the call
+pub record After : Type 0 where
+  pub number : ℕ
+  pub left : List ℕ
+
+abbrev pub after : ℕ → List ℕ → After
+after k l = record { number = k; left = l }
+
+-- a store of v at place i; 5 where there is no such place
+abbrev pub storeOf : ℕ → ℕ → List ℕ → After
+storeOf i v l = pick (ltb i (length l)) (after 0 (set l i v)) (after 5 l)
+
+-- the same at two places, both judged before either is stored to
+abbrev pub storesOf : ℕ → ℕ → ℕ → List ℕ → After
+storesOf i j v l = pick (ltb i (length l)) (pick (ltb j (length l)) (after 0 (set (set l i v) j v)) (after 5 l)) (after 5 l)
+
+-- "One step makes one store." 5: "count over 21, step number not below the count, or its word outside the pool"
+unfoldable pub stepOf : Plan → ℕ → List ℕ → After
+stepOf p at pool =
+    pick (ltb 21 (p .count)) (after 5 pool)
+    (pick (leb (p .count) at) (after 5 pool)
+    (storeOf (getD (p .words) at 0) (getD (p .values) at 0) pool))
+
+-- "Finishing changes only the named map bytes." 5: "a named map byte outside the map"
+abbrev pub finishOf : Effect → List ℕ → After
+finishOf Nothing bytes = after 0 bytes
+finishOf (TakesLeaf a) bytes = storeOf a 1 bytes
+finishOf (TakesBoth a b) bytes = storesOf a b 1 bytes
+finishOf (FreesLeaf a) bytes = storeOf a 0 bytes
+finishOf (FreesBoth a b) bytes = storesOf a b 0 bytes
+
+-- steps i, i + 1, .. of a plan, at most n, until one is refused: the number of the next step, and the words then
+pub record Ran : Type 0 where
+  pub steps : ℕ
+  pub left : List ℕ
+
+abbrev pub ran : ℕ → List ℕ → Ran
+ran k l = record { steps = k; left = l }
+
+unfoldable pub stepsFrom : ℕ → Plan → ℕ → List ℕ → Ran
+stepsFrom zero p i pool = ran i pool
+stepsFrom (suc n) p i pool =
+    let a : After = stepOf p i pool in
+    elim (eqb (a .number) 0) [ true ↦ stepsFrom n p (i + 1) (a .left) | false ↦ ran i pool ]
+
+-- the first steps of a plan, at most so many
+abbrev pub runOf : ℕ → Plan → List ℕ → Ran
+runOf most p pool = stepsFrom most p 0 pool

@@ -1,0 +1,129 @@
+// Plans: at most 21 stores in order, each made by one step, and what they do to the map.
+ghost use mathlib.Core.Path.{_≡_};
+ghost use mathlib.Core.List.{[]};
+ghost use Prim.Native.Nat.{ℕ, _+_, _<_, _≤_};
+ghost use lib.ListN.{length};
+ghost use Rattle.plan.specs.Plans.{planOf, refused, plannedOf, after, storeOf, storesOf, stepOf, finishOf, ran, runOf};
+
+// What a plan does to the map. Slots are named by their byte number in the map.
+pub enum Effect {
+    Nothing,
+    TakesLeaf(usize),
+    TakesBoth(usize, usize),
+    FreesLeaf(usize),
+    FreesBoth(usize, usize),
+}
+
+// At most 21 stores, each a word number and a value; unused places are 0.
+pub struct Plan {
+    pub words: [usize; 21],
+    pub values: [u64; 21],
+    pub count: usize,
+    pub effect: Effect,
+}
+
+// What a planning call answers: document 01's number, and the plan.
+pub struct Planned {
+    pub number: u64,
+    pub plan: Plan,
+}
+
+impl Plan {
+    // Stores of a plan, at most.
+    pub const MOST: usize = 21;
+
+    // The plan of none.
+    pub fn none() -> Plan
+        ensures { λ r. ⌜ r ≡ planOf [] Effect.Nothing ⌝ }
+    {
+        Plan {
+            words: [0; 21],
+            values: [0; 21],
+            count: 0,
+            effect: Effect::Nothing,
+        }
+    }
+}
+
+impl Planned {
+    // A refusal, with a plan that does nothing.
+    pub fn refused(number: u64) -> Planned
+        ensures { λ r. ⌜ r ≡ plannedOf (refused number) ⌝ }
+    {
+        Planned {
+            number,
+            plan: Plan::none(),
+        }
+    }
+}
+
+// One step makes one store.
+pub fn step(pool: &mut [u64], plan: Plan, at: usize) -> u64
+    ensures { λ r. ⌜ after r (now (pool .exit)) ≡ stepOf plan at (now (pool .entry)) ⌝ }
+{
+    let count = plan.count;
+    if Plan::MOST < count {
+        return 5;
+    }
+    if count <= at {
+        return 5;
+    }
+    let word = plan.words[at];
+    if pool.len() <= word {
+        return 5;
+    }
+    pool[word] = plan.values[at];
+    0
+}
+
+// The first steps of a plan, at most so many, until one is refused; how many were made.
+pub fn run(pool: &mut [u64], plan: Plan, most: usize) -> usize
+    ensures { λ r. ⌜ ran r (now (pool .exit)) ≡ runOf most plan (now (pool .entry)) ⌝ }
+{
+    let mut i: usize = 0;
+    while i < most {
+        if step(pool, plan, i) != 0 {
+            return i;
+        }
+        i += 1;
+    }
+    i
+}
+
+fn mark(map: &mut [u8], at: usize, byte: u8) -> u64
+    ensures { λ r. ⌜ after r (now (map .exit)) ≡ storeOf at byte (now (map .entry)) ⌝ }
+{
+    if map.len() <= at {
+        return 5;
+    }
+    map[at] = byte;
+    0
+}
+
+fn mark_both(map: &mut [u8], leaf: usize, node: usize, byte: u8) -> u64
+    ensures { λ r. ⌜ after r (now (map .exit)) ≡ storesOf leaf node byte (now (map .entry)) ⌝ }
+{
+    if map.len() <= leaf {
+        return 5;
+    }
+    if map.len() <= node {
+        return 5;
+    }
+    map[leaf] = byte;
+    map[node] = byte;
+    0
+}
+
+// Finishing changes only the named map bytes.
+pub fn finish(map: &mut [u8], plan: Plan) -> u64
+    ensures { λ r. ⌜ after r (now (map .exit)) ≡ finishOf (plan .effect) (now (map .entry)) ⌝ }
+{
+    let effect = plan.effect;
+    match effect {
+        Effect::Nothing => 0,
+        Effect::TakesLeaf(leaf) => mark(map, leaf, 1),
+        Effect::TakesBoth(leaf, node) => mark_both(map, leaf, node, 1),
+        Effect::FreesLeaf(leaf) => mark(map, leaf, 0),
+        Effect::FreesBoth(leaf, node) => mark_both(map, leaf, node, 0),
+    }
+}

@@ -1,0 +1,13 @@
+pub mod Basics
+pub mod Frame
+pub mod Laws
+pub mod Walk
+pub mod Local
+pub mod Split
+pub mod Place
+pub mod Stores
+pub mod Delete
+pub mod Listing
+pub mod Plain
+pub mod Grow
+pub mod Decide

@@ -1,0 +1,66 @@
+-- Stores touch their words and no others.
+-- Assumes nothing.
+use mathlib.Core.Path.{_≡_, refl, sym, ap, _∙_}
+use mathlib.Core.Logic.{_≢_, _⊎_, inl, inr}
+use Prim.Native.Nat.{ℕ, zero, suc, _+_, _≤_, _<_}
+use mathlib.Core.List.{List, [], _∷_, _++_}
+use native.Mathlib.Omega.{arith}
+use native.Mathlib.Nat.{add-zero}
+use native.Mathlib.Numerals.{add-one}
+use lib.ListN.{length, getD}
+use Rattle.tree.specs.Tree.{upd}
+use Rattle.tree.specs.Shape.{Mem}
+use Rattle.tree.specs.Stores.{Store, run, block, Part, done, made, lost}
+use Rattle.tree.proofs.Basics.{upd-at, upd-off}
+
+-- every store's word has P
+unfoldable pub Words : (ℕ → Type 0) → List Store → Type 0
+Words P [] = Unit {0}
+Words P (s ∷ σ) = P (s .word) × Words P σ
+
+pub words-part : (P : ℕ → Type 0) (σ τ : List Store) → Part σ τ → Words P σ → Words P τ
+unfolding Words
+words-part P σ τ done w = tt
+words-part P σ τ (made {σ = σ′} {τ = τ′} p) w = (w .0, words-part P σ′ τ′ p (w .1))
+words-part P σ τ (lost {σ = σ′} {τ = τ′} p) w = words-part P σ′ τ′ p (w .1)
+
+pub words-more : (P Q : ℕ → Type 0) (σ : List Store) → ((i : ℕ) → P i → Q i) → Words P σ → Words Q σ
+unfolding Words
+words-more P Q [] f w = tt
+words-more P Q (s ∷ σ) f w = (f (s .word) (w .0), words-more P Q σ f (w .1))
+
+pub words-append : (P : ℕ → Type 0) (σ τ : List Store) → Words P σ → Words P τ → Words P (σ ++ τ)
+unfolding Words
+words-append P [] τ a b = b
+words-append P (s ∷ σ) τ a b = (a .0, words-append P σ τ (a .1) b)
+
+pub words-block : (P : ℕ → Type 0) (a : ℕ) (vs : List ℕ) → ((i : ℕ) → a ≤ i → i < a + length vs → P i) → Words P (block a vs)
+unfolding Words block
+words-block P a [] f = tt
+words-block P a (v ∷ vs) f = (f a (omega arith) (omega arith), words-block P (a + 1) vs (λ i h l. f i (omega arith) (omega arith)))
+
+pub run-off : (σ : List Store) (m : Mem) (j : ℕ) → Words (λ i. j ≢ i) σ → run σ m j ≡ m j
+unfolding Words run
+run-off [] m j w = refl
+run-off (s ∷ σ) m j w = run-off σ (upd m (s .word) (s .value)) j (w .1) ∙ upd-off m (s .word) (s .value) j (w .0)
+
+pub run-append : (σ τ : List Store) (m : Mem) → run (σ ++ τ) m ≡ run τ (run σ m)
+unfolding run
+run-append [] τ m = refl
+run-append (s ∷ σ) τ m = run-append σ τ (upd m (s .word) (s .value))
+
+pub block-off : (a : ℕ) (vs : List ℕ) (m : Mem) (j : ℕ) → ((i : ℕ) → a ≤ i → i < a + length vs → j ≢ i) → run (block a vs) m j ≡ m j
+block-off a vs m j h = run-off (block a vs) m j (words-block (λ i. j ≢ i) a vs h)
+
+pub block-at : (a : ℕ) (vs : List ℕ) (m : Mem) (i : ℕ) → i < length vs → run (block a vs) m (a + i) ≡ getD vs i 0
+unfolding run block
+block-at a [] m i h = absurd (omega arith)
+block-at a (v ∷ vs) m zero h =
+    rw (add-zero a) (block-off (a + 1) vs (upd m a v) a (λ i p q z. omega arith) ∙ upd-at m a v)
+block-at a (v ∷ vs) m (suc i) h =
+    let e : a + suc i ≡ a + 1 + i = omega arith in
+    rw e (block-at (a + 1) vs (upd m a v) i (omega arith))
+
+pub part-all : (σ : List Store) → Part σ σ
+part-all [] = done
+part-all (s ∷ σ) = made (part-all σ)

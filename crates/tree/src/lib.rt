@@ -1,0 +1,1 @@
+// No code: the theory of the tree that a pool holds.

@@ -1,0 +1,118 @@
+-- The walk along a key, the lowest leaf below a reference, and a node's children, in a pool of n leaves.
+-- Assumes nothing.
+use mathlib.Core.Bool.{Bool, true, false, not}
+use mathlib.Core.List.{List}
+use Prim.Native.Nat.{ℕ, zero, suc, _+_, _≤_, _<_}
+use lib.Dec.{eqb, leb, ltb}
+use Rattle.digits.specs.Choice.{pick}
+use Rattle.digits.specs.Loops.{scan, tally}
+use Rattle.digits.specs.Digits.{digitOf}
+use Rattle.digits.specs.Headers.{depthOf, lengthOf}
+use Rattle.pool.specs.Places.{wordAt, keyAt, headerAt, childAt, childWord}
+use Rattle.pool.specs.Refs.{refOf}
+use Rattle.pool.specs.declared.Ref.{Ref}
+use Rattle.pool.specs.declared.Ref.the-variants.{Empty, Leaf, Node, Bad}
+use Rattle.walk.specs.declared.Head.{Head}
+use Rattle.walk.specs.declared.Head.the-variants.{Branch, Wrong}
+use Rattle.walk.specs.declared.Spot.{Spot}
+use Rattle.walk.specs.declared.End.{End}
+use Rattle.walk.specs.declared.End.the-variants.{AtLeaf, AtEmpty, Stopped, Damaged}
+use Rattle.walk.specs.declared.Lowest.{Lowest}
+use Rattle.walk.specs.declared.Lowest.the-variants.{Key, NoKey}
+
+-- "At a node with depth h it is damage if h < w, length > 15 or b > 15." "The branch place b is depth + length"
+unfoldable pub headOf : ℕ → ℕ → Head
+headOf w word =
+    pick (ltb (depthOf word) w) Wrong
+    (pick (ltb 15 (lengthOf word)) Wrong
+    (pick (ltb 15 (depthOf word + lengthOf word)) Wrong
+    (Branch (depthOf word + lengthOf word))))
+
+-- an accepted branch place lies between the walk depth and 15
+abbrev pub Between : ℕ → Head → Type 0
+Between w (Branch b) = (w ≤ b) × (b < 16)
+Between w Wrong = Unit {0}
+
+-- "It begins at the root reference with walk depth w = 0."
+abbrev pub root : Spot
+root = record { at = 1; depth = 0; nodes = 0; node = 0; over = 0; above = 0 }
+
+-- "Otherwise the walk goes to the child chosen by digit b, with w = b+1": past node j, to its child c
+abbrev pub below : ℕ → ℕ → ℕ → ℕ → Spot → Spot
+below n j b c s = record { at = childWord n j c; depth = b + 1; nodes = s .nodes + 1; node = j; over = s .at; above = s .depth }
+
+-- "So the walk ends at a leaf, at an empty reference or at damage." The end of a walk that has come to no node.
+abbrev pub endOf : Spot → Ref → End
+endOf s Empty = AtEmpty s
+endOf s (Leaf i) = AtLeaf s i
+endOf s (Node j) = Damaged (s .nodes)
+endOf s Bad = Damaged (s .nodes)
+
+-- It stops before the first node that branches at or past `stop`. At most
+-- so many nodes are met as the first number says.
+unfoldable pub walkFrom : ℕ → List ℕ → ℕ → ℕ → ℕ → Spot → End
+walkFrom zero pool n key stop s = Damaged (s .nodes)
+walkFrom (suc more) pool n key stop s =
+    elim (refOf n (wordAt pool (s .at))) [
+      | Empty ↦ endOf s Empty
+      | Leaf i ↦ endOf s (Leaf i)
+      | Node j ↦
+          elim (headOf (s .depth) (headerAt pool n j)) [
+            | Branch b ↦ elim (leb stop b) [ true ↦ Stopped s j b | false ↦ walkFrom more pool n key stop (below n j b (digitOf key b) s) ]
+            | Wrong ↦ Damaged (s .nodes)
+          ]
+      | Bad ↦ endOf s Bad
+    ]
+
+-- the walk that stops before the first node with b >= stop
+abbrev pub walkTo : List ℕ → ℕ → ℕ → ℕ → End
+walkTo pool n key stop = walkFrom 17 pool n key stop root
+
+-- the walk: no node branches at 16
+abbrev pub walkOf : List ℕ → ℕ → ℕ → End
+walkOf pool n key = walkTo pool n key 16
+
+-- "A child is any of the sixteen words that is not 0."
+abbrev pub isChild : List ℕ → ℕ → ℕ → ℕ → Bool
+isChild pool n j c = not (eqb (childAt pool n j c) 0)
+
+abbrev pub childrenOf : List ℕ → ℕ → ℕ → ℕ
+childrenOf pool n j = tally 16 (isChild pool n j)
+
+-- the lowest child of node j, 16 for none
+abbrev pub lowestChild : List ℕ → ℕ → ℕ → ℕ
+lowestChild pool n j = scan 16 0 (isChild pool n j)
+
+-- the lowest child of node j but the one at the word `at`, 16 for none
+abbrev pub otherChild : List ℕ → ℕ → ℕ → ℕ → ℕ
+otherChild pool n j at = scan 16 0 (λ c. pick (eqb (childWord n j c) at) false (isChild pool n j c))
+
+-- the key of a way down that has come to no node
+abbrev pub lowestEnd : List ℕ → Ref → Lowest
+lowestEnd pool Empty = NoKey
+lowestEnd pool (Leaf i) = Key (keyAt pool i)
+lowestEnd pool (Node j) = NoKey
+lowestEnd pool Bad = NoKey
+
+-- "'Lowest leaf' below a reference means following the lowest non-empty child each time, under the walk's damage rules; a childless node is
+-- damage." The reference r is met at walk depth w.
+unfoldable pub lowestFrom : ℕ → List ℕ → ℕ → ℕ → ℕ → Lowest
+lowestFrom zero pool n w r = NoKey
+lowestFrom (suc more) pool n w r =
+    elim (refOf n r) [
+      | Empty ↦ lowestEnd pool Empty
+      | Leaf i ↦ lowestEnd pool (Leaf i)
+      | Node j ↦
+          elim (headOf w (headerAt pool n j)) [
+            | Branch b ↦
+                elim (ltb (lowestChild pool n j) 16) [
+                  | true ↦ lowestFrom more pool n (b + 1) (childAt pool n j (lowestChild pool n j))
+                  | false ↦ NoKey
+                ]
+            | Wrong ↦ NoKey
+          ]
+      | Bad ↦ lowestEnd pool Bad
+    ]
+
+abbrev pub lowestOf : List ℕ → ℕ → ℕ → ℕ → Lowest
+lowestOf pool n w r = lowestFrom 17 pool n w r

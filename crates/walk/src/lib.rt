@@ -1,0 +1,210 @@
+// Ways down the tree: the walk along a key, the lowest leaf below a reference, a node's children.
+ghost use mathlib.Core.Path.{_≡_};
+ghost use Prim.Native.Nat.{ℕ, _+_, _<_, _≤_};
+ghost use lib.ListN.{length};
+ghost use Rattle.pool.specs.Sizes.{Sized};
+ghost use Rattle.pool.specs.Refs.{Within};
+ghost use Rattle.walk.specs.Walks.{headOf, Between, root, endOf, walkTo, walkOf, childrenOf, lowestChild, otherChild, lowestEnd, lowestOf};
+use digits::Header;
+use pool::Ref;
+
+// What a header says to a walk: the branch place, or damage.
+pub enum Head {
+    Branch(usize),
+    Wrong,
+}
+
+// A header word met at walk depth w. Depth and length are added wide: in 8 bits 250 + 10 would be 4.
+pub fn accept(w: usize, word: u64) -> Head
+    ensures { λ r. ⌜ (r ≡ headOf w word) × Between w r ⌝ }
+{
+    let h = Header::unpack(word);
+    let depth = h.depth;
+    let length = h.length;
+    if depth < w {
+        return Head::Wrong;
+    }
+    if 15 < length {
+        return Head::Wrong;
+    }
+    let b = depth + length;
+    if 15 < b {
+        return Head::Wrong;
+    }
+    Head::Branch(b)
+}
+
+// Where a walk stands.
+pub struct Spot {
+    // The word of the reference that it stands at, and the walk depth there.
+    pub at: usize,
+    pub depth: usize,
+    // How many nodes it passed; of the last, its number, the word of the reference to it, and the walk depth there.
+    pub nodes: usize,
+    pub node: usize,
+    pub over: usize,
+    pub above: usize,
+}
+
+impl Spot {
+    fn root() -> Spot
+        ensures { λ r. ⌜ r ≡ root ⌝ }
+    {
+        Spot {
+            at: 1,
+            depth: 0,
+            nodes: 0,
+            node: 0,
+            over: 0,
+            above: 0,
+        }
+    }
+}
+
+// How a walk ends: at leaf i, at an empty reference, before node j that branches at b, or at damage after so many nodes.
+pub enum End {
+    AtLeaf(Spot, usize),
+    AtEmpty(Spot),
+    Stopped(Spot, usize, usize),
+    Damaged(usize),
+}
+
+// The end of a walk that has come to no node.
+fn ended(s: Spot, r: Ref) -> End
+    ensures { λ e. ⌜ e ≡ endOf s r ⌝ }
+{
+    match r {
+        Ref::Empty => End::AtEmpty(s),
+        Ref::Leaf(i) => End::AtLeaf(s, i),
+        Ref::Node(_) => End::Damaged(s.nodes),
+        Ref::Bad => End::Damaged(s.nodes),
+    }
+}
+
+// The walk along a key, but it stops before the first node that branches at or past `stop`.
+pub fn walk_to(pool: &[u64], n: usize, key: u64, stop: usize) -> End
+    requires { ⌜ Sized (now pool) n ⌝ }
+    ensures { λ r. ⌜ r ≡ walkTo (now (pool .entry)) n key stop ⌝ }
+{
+    let mut s = Spot::root();
+    loop {
+        let at = s.at;
+        let r = pool::reference(n, pool[at]);
+        let Ref::Node(j) = r else {
+            return ended(s, r);
+        };
+        let Head::Branch(b) = accept(s.depth, pool::header(pool, n, j)) else {
+            return End::Damaged(s.nodes);
+        };
+        if stop <= b {
+            return End::Stopped(s, j, b);
+        }
+        s = Spot {
+            at: pool::node_word(n, j) + 1 + digits::digit(key, b),
+            depth: b + 1,
+            nodes: s.nodes + 1,
+            node: j,
+            over: at,
+            above: s.depth,
+        };
+    }
+}
+
+// The walk along a key: no node branches at 16.
+pub fn walk(pool: &[u64], n: usize, key: u64) -> End
+    requires { ⌜ Sized (now pool) n ⌝ }
+    ensures { λ r. ⌜ r ≡ walkOf (now (pool .entry)) n key ⌝ }
+{
+    walk_to(pool, n, key, Header::DIGITS)
+}
+
+// How many children node j has.
+pub fn children(pool: &[u64], n: usize, j: usize) -> usize
+    requires { ⌜ Sized (now pool) n × (j + 1 < n) ⌝ }
+    ensures { λ r. ⌜ r ≡ childrenOf (now (pool .entry)) n j ⌝ }
+{
+    let mut count: usize = 0;
+    let mut c: usize = 0;
+    while c < Header::CHILDREN {
+        if pool::child(pool, n, j, c) != 0 {
+            count += 1;
+        }
+        c += 1;
+    }
+    count
+}
+
+// The lowest child of node j, 16 for none.
+pub fn lowest_child(pool: &[u64], n: usize, j: usize) -> usize
+    requires { ⌜ Sized (now pool) n × (j + 1 < n) ⌝ }
+    ensures { λ r. ⌜ r ≡ lowestChild (now (pool .entry)) n j ⌝ }
+{
+    let mut c: usize = 0;
+    while c < Header::CHILDREN {
+        if pool::child(pool, n, j, c) != 0 {
+            return c;
+        }
+        c += 1;
+    }
+    c
+}
+
+// The lowest child of node j but the one at the word `at`, 16 for none.
+pub fn other_child(pool: &[u64], n: usize, j: usize, at: usize) -> usize
+    requires { ⌜ Sized (now pool) n × (j + 1 < n) ⌝ }
+    ensures { λ r. ⌜ r ≡ otherChild (now (pool .entry)) n j at ⌝ }
+{
+    let mut c: usize = 0;
+    while c < Header::CHILDREN {
+        if pool::node_word(n, j) + 1 + c != at {
+            if pool::child(pool, n, j, c) != 0 {
+                return c;
+            }
+        }
+        c += 1;
+    }
+    c
+}
+
+// The key of a lowest leaf, or damage on the way to it.
+pub enum Lowest {
+    Key(u64),
+    NoKey,
+}
+
+// The key of the lowest leaf below the reference r, met at walk depth w.
+pub fn lowest_leaf(pool: &[u64], n: usize, w: usize, r: u64) -> Lowest
+    requires { ⌜ Sized (now pool) n × (w ≤ 16) ⌝ }
+    ensures { λ k. ⌜ k ≡ lowestOf (now (pool .entry)) n w r ⌝ }
+{
+    let mut depth = w;
+    let mut at = r;
+    loop {
+        let s = pool::reference(n, at);
+        let Ref::Node(j) = s else {
+            return lowest_end(pool, n, s);
+        };
+        let Head::Branch(b) = accept(depth, pool::header(pool, n, j)) else {
+            return Lowest::NoKey;
+        };
+        let c = lowest_child(pool, n, j);
+        if Header::CHILDREN <= c {
+            return Lowest::NoKey;
+        }
+        depth = b + 1;
+        at = pool::child(pool, n, j, c);
+    }
+}
+
+// The key of a way down that has come to no node.
+fn lowest_end(pool: &[u64], n: usize, r: Ref) -> Lowest
+    requires { ⌜ Sized (now pool) n × Within n r ⌝ }
+    ensures { λ k. ⌜ k ≡ lowestEnd (now (pool .entry)) r ⌝ }
+{
+    match r {
+        Ref::Leaf(i) => Lowest::Key(pool::leaf_key(pool, n, i)),
+        Ref::Empty => Lowest::NoKey,
+        Ref::Node(_) => Lowest::NoKey,
+        Ref::Bad => Lowest::NoKey,
+    }
+}
