@@ -4,7 +4,7 @@ ghost use Prim.Native.Nat.{ℕ, _+_, _<_, _≤_};
 ghost use lib.ListN.{length};
 ghost use Rattle.pool.specs.Sizes.{Sized};
 ghost use Rattle.pool.specs.Refs.{Within};
-ghost use Rattle.walk.specs.Walks.{headOf, Between, root, endOf, walkTo, walkOf, childrenOf, lowestChild, otherChild, lowestEnd, lowestOf};
+ghost use Rattle.walk.specs.Walks.{headOf, Between, root, below, endOf, walkTo, walkOf, childrenOf, lowestChild, otherChild, lowestEnd, lowestOf};
 use digits::Header;
 use pool::Ref;
 
@@ -59,6 +59,21 @@ impl Spot {
             above: 0,
         }
     }
+
+    // Past node j, which branches at b, to its child c.
+    fn past(self, n: usize, j: usize, b: usize, c: usize) -> Spot
+        requires { ⌜ (n ≤ 1024) × (j < 1024) × (b < 16) × (c < 16) × (self .nodes ≤ 16) ⌝ }
+        ensures { λ r. ⌜ r ≡ below n j b c self ⌝ }
+    {
+        Spot {
+            at: pool::node_word(n, j) + 1 + c,
+            depth: b + 1,
+            nodes: self.nodes + 1,
+            node: j,
+            over: self.at,
+            above: self.depth,
+        }
+    }
 }
 
 // How a walk ends: at leaf i, at an empty reference, before node j that branches at b, or at damage after so many nodes.
@@ -99,14 +114,7 @@ pub fn walk_to(pool: &[u64], n: usize, key: u64, stop: usize) -> End
         if stop <= b {
             return End::Stopped(s, j, b);
         }
-        s = Spot {
-            at: pool::node_word(n, j) + 1 + digits::digit(key, b),
-            depth: b + 1,
-            nodes: s.nodes + 1,
-            node: j,
-            over: at,
-            above: s.depth,
-        };
+        s = s.past(n, j, b, digits::digit(key, b));
     }
 }
 
