@@ -1,0 +1,7 @@
+// Opening a pool: judge the whole of it, mend the stale headers, mark what is reached.
+mod mending;
+mod surveying;
+
+pub use mending::Opened;
+pub use mending::open;
+pub use mending::plan_open;

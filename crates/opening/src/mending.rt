@@ -1,0 +1,234 @@
+// Opening: the planning call, which answers the first store, and the whole call, which makes them all.
+ghost use mathlib.Core.Path.{_≡_};
+ghost use Prim.Native.Nat.{ℕ, _+_, _-_, _*_, _<_, _≤_};
+ghost use lib.ListN.{length, getD, replicate};
+ghost use mathlib.Core.List.{map as mapped};
+ghost use Rattle.pool.specs.Sizes.{Sized, bytesOf};
+ghost use Rattle.plan.specs.Plans.{planOf, plannedOf};
+ghost use Rattle.plan.specs.declared.Effect.the-variants.{Nothing};
+ghost use Rattle.opening.specs.Surveys.{surveyed, surveyOf};
+ghost use Rattle.opening.specs.Openings.{depthMarked, stale, mendOf, mendFirst, openJudged, openPlan, mends, mendNode, mended, reached, keysOf, opened, left, openOf};
+use crate::surveying::Census;
+use crate::surveying::survey_ref;
+use digits::Header;
+use plan::Effect;
+use plan::Plan;
+use plan::Planned;
+use pool::Size;
+use walk::Head;
+use walk::Lowest;
+
+// What an opening answers: document 01's number, the keys held, the headers rewritten.
+pub struct Opened {
+    pub number: u64,
+    pub keys: usize,
+    pub headers: usize,
+}
+
+// Whether node j is stale: its header's depth is above the walk depth that its mark says.
+fn is_stale(pool: &[u64], n: usize, map: &[u8], j: usize) -> bool
+    requires { ⌜ Sized (now pool) n × (bytesOf n ≤ length (now map)) × (j + 1 < n) ⌝ }
+    ensures { λ r. ⌜ r ≡ stale (now (pool .entry)) n (now (map .entry)) j ⌝ }
+{
+    let mark = map[n + j] as usize;
+    if mark == 0 {
+        return false;
+    }
+    mark - 1 < Header::unpack(pool::header(pool, n, j)).depth
+}
+
+// The store that mends node j, met at walk depth w, as a plan.
+fn mend_plan(pool: &[u64], n: usize, w: usize, j: usize) -> Plan
+    requires { ⌜ Sized (now pool) n × (j + 1 < n) ⌝ }
+    ensures { λ r. ⌜ r ≡ planOf (mendOf (now (pool .entry)) n w j) Nothing ⌝ }
+{
+    let Head::Branch(b) = walk::accept(w, pool::header(pool, n, j)) else {
+        return Plan::none();
+    };
+    let Lowest::Key(near) = walk::lowest_leaf(pool, n, w, pool::node_ref(j)) else {
+        return Plan::none();
+    };
+    let mut words = [0usize; 21];
+    let mut values = [0u64; 21];
+    words[0] = pool::node_word(n, j);
+    values[0] = Header::pack(w, b - w, near);
+    Plan {
+        words,
+        values,
+        count: 1,
+        effect: Effect::Nothing,
+    }
+}
+
+// The walk depth that the mark of node j says.
+fn marked_depth(map: &[u8], n: usize, j: usize) -> usize
+    requires { ⌜ (bytesOf n ≤ length (now map)) × (j + 1 < n) × (n ≤ 1024) ⌝ }
+    ensures { λ r. ⌜ r ≡ depthMarked (now (map .entry)) n j ⌝ }
+{
+    let mark = map[n + j] as usize;
+    if mark == 0 { 0 } else { mark - 1 }
+}
+
+// The store of the lowest-numbered stale node, as a plan, or a plan of none.
+fn mend_first(pool: &[u64], n: usize, map: &[u8]) -> Plan
+    requires { ⌜ Sized (now pool) n × (length (now map) ≡ bytesOf n) ⌝ }
+    ensures { λ r. ⌜ r ≡ planOf (mendFirst (now (pool .entry)) n (now (map .entry))) Nothing ⌝ }
+{
+    let mut j: usize = 0;
+    while j + 1 < n {
+        if is_stale(pool, n, map, j) {
+            return mend_plan(pool, n, marked_depth(map, n, j), j);
+        }
+        j += 1;
+    }
+    Plan::none()
+}
+
+// Surveys the pool into a map that is all 0.
+fn survey(pool: &[u64], n: usize, map: &mut [u8]) -> bool
+    requires { ⌜ Sized (now pool) n × (now map ≡ replicate (bytesOf n) 0) ⌝ }
+    ensures { λ r. ⌜ surveyed (now (map .exit)) r ≡ surveyed (surveyOf (now (pool .entry)) n .marks) (surveyOf (now (pool .entry)) n .census .sound) ⌝ }
+{
+    let start = Census {
+        last: 0,
+        sound: true,
+    };
+    let s = survey_ref(pool, n, Header::DIGITS, pool[1], map, start);
+    s.sound
+}
+
+// The first store that open makes on a pool of n leaves, with working memory of its own.
+fn plan_with(pool: &[u64], n: usize, map: &mut [u8]) -> Planned
+    requires { ⌜ Sized (now pool) n × (now map ≡ replicate (bytesOf n) 0) ⌝ }
+    ensures { λ r. ⌜ r ≡ plannedOf (openJudged (now (pool .entry)) n (surveyOf (now (pool .entry)) n)) ⌝ }
+{
+    if !survey(pool, n, map) {
+        return Planned::refused(2);
+    }
+    Planned {
+        number: 0,
+        plan: mend_first(pool, n, map),
+    }
+}
+
+// The first store that open makes, or none.
+pub fn plan_open(pool: &[u64]) -> Planned
+    ensures { λ r. ⌜ r ≡ plannedOf (openPlan (now (pool .entry))) ⌝ }
+{
+    let Size::Holds(n) = pool::capacity(pool) else {
+        return Planned::refused(1);
+    };
+    let mut scratch = [0u8; 2047];
+    plan_within(pool, n, &mut scratch)
+}
+
+// The same in a part of the working memory, as long as the pool's map.
+fn plan_within(pool: &[u64], n: usize, scratch: &mut [u8]) -> Planned
+    requires { ⌜ Sized (now pool) n × (now scratch ≡ replicate 2047 0) ⌝ }
+    ensures { λ r. ⌜ r ≡ plannedOf (openJudged (now (pool .entry)) n (surveyOf (now (pool .entry)) n)) ⌝ }
+{
+    let bytes = 2 * n - 1;
+    plan_with(pool, n, &mut scratch[0..bytes])
+}
+
+// Mends node j if it is stale; how many headers were rewritten.
+fn mend_node(pool: &mut [u64], n: usize, map: &[u8], j: usize) -> usize
+    requires { ⌜ Sized (now pool) n × (length (now map) ≡ bytesOf n) × (j + 1 < n) ⌝ }
+    ensures { λ r. ⌜ mends (now (pool .exit)) r ≡ mendNode n (now (map .entry)) j (mends (now (pool .entry)) 0) ⌝ }
+{
+    if !is_stale(pool, n, map, j) {
+        return 0;
+    }
+    let plan = mend_plan(pool, n, marked_depth(map, n, j), j);
+    plan::run(pool, plan, plan.count)
+}
+
+// Mends every stale header, lower-numbered nodes first, one step each.
+fn mend(pool: &mut [u64], n: usize, map: &[u8]) -> usize
+    requires { ⌜ Sized (now pool) n × (length (now map) ≡ bytesOf n) ⌝ }
+    ensures { λ r. ⌜ mends (now (pool .exit)) r ≡ mended n (now (map .entry)) (n - 1) (now (pool .entry)) ⌝ }
+{
+    let mut headers: usize = 0;
+    let mut j: usize = 0;
+    while j + 1 < n {
+        headers += mend_node(pool, n, map, j);
+        j += 1;
+    }
+    headers
+}
+
+// Every byte becomes 0.
+fn clear(map: &mut [u8])
+    ensures { λ _. ⌜ now (map .exit) ≡ replicate (length (now (map .entry))) 0 ⌝ }
+{
+    let mut i: usize = 0;
+    while i < map.len() {
+        map[i] = 0;
+        i += 1;
+    }
+}
+
+// Every mark becomes 1.
+fn flatten(map: &mut [u8])
+    ensures { λ _. ⌜ now (map .exit) ≡ mapped reached (now (map .entry)) ⌝ }
+{
+    let mut i: usize = 0;
+    while i < map.len() {
+        if map[i] != 0 {
+            map[i] = 1;
+        }
+        i += 1;
+    }
+}
+
+// How many of the first n slots are reached.
+fn keys(map: &[u8], n: usize) -> usize
+    requires { ⌜ n ≤ length (now map) ⌝ }
+    ensures { λ r. ⌜ r ≡ keysOf n (now (map .entry)) ⌝ }
+{
+    let mut count: usize = 0;
+    let mut i: usize = 0;
+    while i < n {
+        if map[i] != 0 {
+            count += 1;
+        }
+        i += 1;
+    }
+    count
+}
+
+// A refusal.
+fn refused(number: u64) -> Opened
+    ensures { λ r. ⌜ r ≡ opened number 0 0 ⌝ }
+{
+    Opened {
+        number,
+        keys: 0,
+        headers: 0,
+    }
+}
+
+// Judges the whole pool, mends its stale headers and rebuilds its map.
+pub fn open(pool: &mut [u64], map: &mut [u8]) -> Opened
+    ensures { λ r. ⌜ left r (now (pool .exit)) (now (map .exit)) ≡ openOf (now (pool .entry)) (now (map .entry)) ⌝ }
+{
+    let Size::Holds(n) = pool::capacity(pool) else {
+        return refused(1);
+    };
+    if map.len() != 2 * n - 1 {
+        return refused(1);
+    }
+    clear(map);
+    if !survey(pool, n, map) {
+        clear(map);
+        return refused(2);
+    }
+    let headers = mend(pool, n, map);
+    let count = keys(map, n);
+    flatten(map);
+    Opened {
+        number: 0,
+        keys: count,
+        headers,
+    }
+}

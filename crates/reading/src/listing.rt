@@ -1,0 +1,204 @@
+// Listing: a visit of a reference, and of a node's sixteen references, lowest first.
+ghost use mathlib.Core.Path.{_≡_};
+ghost use Prim.Native.Nat.{ℕ, _+_, _-_, _<_, _≤_};
+ghost use lib.ListN.{length, replicate};
+ghost use Rattle.pool.specs.Sizes.{Sized};
+ghost use mathlib.Core.Bool.{false};
+ghost use Rattle.reading.specs.Listings.{visit, damaged, leafOf, nodeOf, visitFrom, shown, listed, listOf};
+use digits::Header;
+use pool::Ref;
+use pool::Size;
+use walk::Head;
+
+// What a listing answers: document 01's number, the entries handed out, and whether there is a further one.
+pub struct Listed {
+    pub number: u64,
+    pub count: usize,
+    pub more: bool,
+}
+
+// The state of a visit: entries handed out, leaves met, and whether it goes on.
+pub struct State {
+    pub count: usize,
+    pub met: usize,
+    pub phase: u8,
+}
+
+// The phases: the visit goes on; a further entry was found; damage was met.
+const ON: u8 = 0;
+
+const FURTHER: u8 = 1;
+
+const DAMAGE: u8 = 2;
+
+// A leaf is met.
+fn leaf(
+    keys: &mut [u64],
+    values: &mut [u64],
+    n: usize,
+    from: u64,
+    key: u64,
+    value: u64,
+    s: State,
+) -> State
+    requires { ⌜ length (now keys) ≡ length (now values) ⌝ }
+    ensures { λ r. ⌜ visit (now (keys .exit)) (now (values .exit)) r ≡ leafOf n from key value (visit (now (keys .entry)) (now (values .entry)) s) ⌝ }
+{
+    let met = s.met;
+    let count = s.count;
+    if n <= met {
+        return spoil(s);
+    }
+    if key < from {
+        return State {
+            count,
+            met: met + 1,
+            phase: ON,
+        };
+    }
+    if keys.len() <= count {
+        return State {
+            count,
+            met: met + 1,
+            phase: FURTHER,
+        };
+    }
+    keys[count] = key;
+    values[count] = value;
+    State {
+        count: count + 1,
+        met: met + 1,
+        phase: ON,
+    }
+}
+
+// Damage is met.
+fn spoil(s: State) -> State
+    ensures { λ r. ⌜ r ≡ damaged s ⌝ }
+{
+    State {
+        count: s.count,
+        met: s.met,
+        phase: DAMAGE,
+    }
+}
+
+// The reference r is visited, with so many digits left: it is met at walk depth 16 - left.
+fn visit_ref(
+    pool: &[u64],
+    n: usize,
+    from: u64,
+    left: usize,
+    r: u64,
+    keys: &mut [u64],
+    values: &mut [u64],
+    s: State,
+) -> State
+    requires { ⌜ Sized (now pool) n × (length (now keys) ≡ length (now values)) × (left ≤ 16) ⌝ }
+    ensures { λ t. ⌜ visit (now (keys .exit)) (now (values .exit)) t ≡ visitFrom 17 (now (pool .entry)) n from (16 - left) r (visit (now (keys .entry)) (now (values .entry)) s) ⌝ }
+{
+    let phase = s.phase;
+    if phase != ON {
+        return s;
+    }
+    match pool::reference(n, r) {
+        Ref::Empty => s,
+        Ref::Leaf(i) => leaf(
+            keys,
+            values,
+            n,
+            from,
+            pool::leaf_key(pool, n, i),
+            pool::leaf_value(pool, n, i),
+            s,
+        ),
+        Ref::Node(j) => visit_node(pool, n, from, left, j, keys, values, s),
+        Ref::Bad => spoil(s),
+    }
+}
+
+// Node j is visited, with so many digits left: its children have fewer.
+fn visit_node(
+    pool: &[u64],
+    n: usize,
+    from: u64,
+    left: usize,
+    j: usize,
+    keys: &mut [u64],
+    values: &mut [u64],
+    s: State,
+) -> State
+    requires { ⌜ Sized (now pool) n × (length (now keys) ≡ length (now values)) × (left ≤ 16) × (j + 1 < n) ⌝ }
+    ensures { λ t. ⌜ visit (now (keys .exit)) (now (values .exit)) t ≡ nodeOf (visitFrom 17 (now (pool .entry)) n from) (now (pool .entry)) n (16 - left) j (visit (now (keys .entry)) (now (values .entry)) s) ⌝ }
+{
+    let Head::Branch(b) = walk::accept(Header::DIGITS - left, pool::header(pool, n, j)) else {
+        return spoil(s);
+    };
+    if walk::children(pool, n, j) == 0 {
+        return spoil(s);
+    }
+    let mut t = s;
+    let mut c: usize = 0;
+    while c < Header::CHILDREN {
+        let r = pool::child(pool, n, j, c);
+        if r != 0 {
+            t = visit_ref(pool, n, from, Header::DIGITS - 1 - b, r, keys, values, t);
+        }
+        c += 1;
+    }
+    t
+}
+
+// Every entry of a buffer becomes 0.
+fn clear(buffer: &mut [u64])
+    ensures { λ _. ⌜ now (buffer .exit) ≡ replicate (length (now (buffer .entry))) 0 ⌝ }
+{
+    let mut i: usize = 0;
+    while i < buffer.len() {
+        buffer[i] = 0;
+        i += 1;
+    }
+}
+
+// A refusal.
+fn refused(number: u64) -> Listed
+    ensures { λ r. ⌜ r ≡ listed number 0 false ⌝ }
+{
+    Listed {
+        number,
+        count: 0,
+        more: false,
+    }
+}
+
+// The entries with a key at or above `from`, in the order of their keys, until the buffers are full.
+pub fn list(pool: &[u64], from: u64, keys: &mut [u64], values: &mut [u64]) -> Listed
+    ensures { λ r. ⌜ shown (now (keys .exit)) (now (values .exit)) r ≡ listOf (now (pool .entry)) from (now (keys .entry)) (now (values .entry)) ⌝ }
+{
+    let Size::Holds(n) = pool::capacity(pool) else {
+        return refused(1);
+    };
+    if keys.len() == 0 {
+        return refused(6);
+    }
+    if keys.len() != values.len() {
+        return refused(6);
+    }
+    let start = State {
+        count: 0,
+        met: 0,
+        phase: ON,
+    };
+    let s = visit_ref(pool, n, from, Header::DIGITS, pool[1], keys, values, start);
+    let phase = s.phase;
+    if phase == DAMAGE {
+        clear(keys);
+        clear(values);
+        return refused(2);
+    }
+    Listed {
+        number: 0,
+        count: s.count,
+        more: phase == FURTHER,
+    }
+}

@@ -1,0 +1,142 @@
+// Planning a delete.
+ghost use mathlib.Core.Path.{_≡_};
+ghost use Prim.Native.Nat.{ℕ, _+_, _-_, _*_, _<_, _≤_};
+ghost use lib.ListN.{length};
+ghost use Rattle.pool.specs.Sizes.{Sized};
+ghost use Rattle.plan.specs.Plans.{plannedOf, decided};
+ghost use Rattle.writing.specs.Deletes.{emptied, bypassed, liftIn, mergeWith, unlinkOf, missOf, deletePlan};
+use digits::Header;
+use plan::Effect;
+use plan::Plan;
+use plan::Planned;
+use pool::Ref;
+use pool::Size;
+use walk::End;
+use walk::Head;
+use walk::Lowest;
+use walk::Spot;
+
+// One store: the reference `at` to leaf i becomes 0.
+fn empty(at: usize, i: usize) -> Planned
+    ensures { λ r. ⌜ r ≡ plannedOf (emptied at i) ⌝ }
+{
+    let mut words = [0usize; 21];
+    words[0] = at;
+    Planned {
+        number: 0,
+        plan: Plan {
+            words,
+            values: [0; 21],
+            count: 1,
+            effect: Effect::FreesLeaf(i),
+        },
+    }
+}
+
+// One store: the reference to the leaf's node takes the other child, the leaf r.
+fn bypass(n: usize, s: Spot, i: usize, r: u64) -> Planned
+    requires { ⌜ (n ≤ 1024) × (s .node < 1024) ⌝ }
+    ensures { λ p. ⌜ p ≡ plannedOf (bypassed n s i r) ⌝ }
+{
+    let mut words = [0usize; 21];
+    let mut values = [0u64; 21];
+    words[0] = s.over;
+    values[0] = r;
+    Planned {
+        number: 0,
+        plan: Plan {
+            words,
+            values,
+            count: 1,
+            effect: Effect::FreesBoth(i, n + s.node),
+        },
+    }
+}
+
+// Two stores: the reference to the leaf's node takes the other child, node j, whose header follows.
+fn lift(pool: &[u64], n: usize, s: Spot, i: usize, r: u64, j: usize) -> Planned
+    requires { ⌜ Sized (now pool) n × (s .node < 1024) × (s .depth ≤ 16) × (s .above ≤ s .depth) × (j + 1 < n) ⌝ }
+    ensures { λ p. ⌜ p ≡ plannedOf (liftIn (now (pool .entry)) n s i r j) ⌝ }
+{
+    let Head::Branch(b) = walk::accept(s.depth, pool::header(pool, n, j)) else {
+        return Planned::refused(2);
+    };
+    let Lowest::Key(near) = walk::lowest_leaf(pool, n, s.depth, r) else {
+        return Planned::refused(2);
+    };
+    let mut words = [0usize; 21];
+    let mut values = [0u64; 21];
+    words[0] = s.over;
+    values[0] = r;
+    words[1] = pool::node_word(n, j);
+    values[1] = Header::pack(s.above, b - s.above, near);
+    Planned {
+        number: 0,
+        plan: Plan {
+            words,
+            values,
+            count: 2,
+            effect: Effect::FreesBoth(i, n + s.node),
+        },
+    }
+}
+
+// The leaf's node has one other child, r.
+fn merge(pool: &[u64], n: usize, s: Spot, i: usize, r: u64) -> Planned
+    requires { ⌜ Sized (now pool) n × (s .node < 1024) × (s .depth ≤ 16) × (s .above ≤ s .depth) ⌝ }
+    ensures { λ p. ⌜ p ≡ plannedOf (mergeWith (now (pool .entry)) n s i r) ⌝ }
+{
+    match pool::reference(n, r) {
+        Ref::Empty => Planned::refused(2),
+        Ref::Leaf(_) => bypass(n, s, i, r),
+        Ref::Node(j) => lift(pool, n, s, i, r, j),
+        Ref::Bad => Planned::refused(2),
+    }
+}
+
+// Leaf i hangs below a node.
+fn unlink(pool: &[u64], n: usize, s: Spot, i: usize) -> Planned
+    requires { ⌜ Sized (now pool) n × (s .node + 1 < n) × (s .depth ≤ 16) × (s .above ≤ s .depth) ⌝ }
+    ensures { λ p. ⌜ p ≡ plannedOf (unlinkOf (now (pool .entry)) n s i) ⌝ }
+{
+    let node = s.node;
+    let count = walk::children(pool, n, node);
+    if count < 2 {
+        return Planned::refused(2);
+    }
+    if 2 < count {
+        return empty(s.at, i);
+    }
+    let c = walk::other_child(pool, n, node, s.at);
+    if Header::CHILDREN <= c {
+        return Planned::refused(2);
+    }
+    merge(pool, n, s, i, pool::child(pool, n, node, c))
+}
+
+// The number of a walk that ended at no leaf.
+fn miss(end: End) -> u64
+    ensures { λ r. ⌜ r ≡ missOf end ⌝ }
+{
+    if let End::AtEmpty(_) = end { 3 } else { 2 }
+}
+
+// What a delete stores, in order.
+pub fn plan_delete(pool: &[u64], key: u64) -> Planned
+    ensures { λ r. ⌜ r ≡ plannedOf (deletePlan (now (pool .entry)) key) ⌝ }
+{
+    let Size::Holds(n) = pool::capacity(pool) else {
+        return Planned::refused(1);
+    };
+    let end = walk::walk(pool, n, key);
+    let End::AtLeaf(s, i) = end else {
+        return Planned::refused(miss(end));
+    };
+    if pool::leaf_key(pool, n, i) != key {
+        return Planned::refused(3);
+    }
+    if s.nodes == 0 {
+        return empty(s.at, i);
+    }
+    unlink(pool, n, s, i)
+}
