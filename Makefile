@@ -1,0 +1,14 @@
+# The ways in. `make run` runs the program `names`, `make test` checks everything.
+.PHONY: run test bench
+
+# The script that `make run` reads: document 01's example, or FILE=path.
+FILE ?= crates/names/stdin
+
+run:
+	@tools/run.sh "$(FILE)"
+
+test:
+	@tools/test.sh
+
+bench:
+	@bench/run.sh

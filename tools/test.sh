@@ -1,0 +1,27 @@
+#!/usr/bin/env bash
+# The test command. It ends with the prover's own closing line, and fails if any part fails.
+set -euo pipefail
+cd "$(dirname "$0")/.."
+
+part() {
+    echo "== $*"
+}
+
+part "toolchain"
+tools/pinned.sh
+part "layout of the sources"
+if ! rt fmt --check; then
+    echo "Some file is not in the layout of 'rt fmt': run it, and commit." >&2
+    exit 1
+fi
+part "crates listed"
+tools/listed.sh
+part "proofs, must-fail edits and programs"
+mkdir -p build
+status=0
+rt ci 2>&1 | tee build/ci.log || status=$?
+if [ "$status" != 0 ] || ! tail -n 1 build/ci.log | grep -qE '^[0-9]+ passed, 0 failed$'; then
+    echo "The prover refused something: see above." >&2
+    exit 1
+fi
+tail -n 1 build/ci.log
