@@ -1,0 +1,95 @@
+-- Where a walk ends: inside the pool, after at most 16 nodes; stopped only before a node at or past `stop`, and else where the plain walk ends.
+-- Assumes nothing.
+use mathlib.Core.Path.{_≡_, refl, sym, _∙_}
+use mathlib.Core.List.{List}
+use Prim.Native.Nat.{ℕ, _+_, _≤_, _<_}
+use native.Mathlib.Omega.{arith}
+use Rattle.digits.proofs.Digits.{digit-lt}
+use Rattle.pool.specs.Sizes.{Sized}
+use Rattle.pool.specs.Places.{wordAt}
+use Rattle.pool.specs.Refs.{refOf, Within}
+use Rattle.pool.specs.declared.Ref.{Ref}
+use Rattle.pool.specs.declared.Ref.the-variants.{Empty, Leaf, Node, Bad}
+use Rattle.walk.specs.declared.Spot.{Spot}
+use Rattle.walk.specs.declared.End.{End}
+use Rattle.walk.specs.declared.End.the-variants.{AtLeaf, AtEmpty, Stopped, Damaged}
+use Rattle.walk.specs.Walks.{root, below, endOf, walkTo, walkOf}
+use Rattle.walk.specs.Ends.{Accepted, Passed, Inside, Stands, Stops, Ends, nodesOf}
+use Rattle.walk.proofs.Heads.{NoNode}
+use Rattle.walk.proofs.Walks.{Walks, ends, damaged, stops, goes, walk-comes, walk-end}
+
+module _ {pool : List ℕ} {n : ℕ} (z : Sized pool n) (stop : ℕ) where
+  pub root-inside : Inside pool n stop root
+  root-inside =
+      record {
+        at≥ = omega arith;
+        at< = omega arith;
+        depth≤ = omega arith;
+        depth≤stop = omega arith;
+        nodes≤ = omega arith;
+        began = λ e. refl;
+        passed = λ e. absurd (e refl);
+      }
+
+  pub below-inside : {s : Spot} {j b c : ℕ} → Inside pool n stop s → Accepted pool n (s .depth) (wordAt pool (s .at)) j b → b < stop → c < 16 → Inside pool n stop (below n j b c s)
+  below-inside {s} {j} {b} {c} i a l h =
+      record {
+        at≥ = omega arith;
+        at< = omega arith;
+        depth≤ = omega arith;
+        depth≤stop = omega arith;
+        nodes≤ = omega arith;
+        began = λ e. absurd (omega arith);
+        passed = λ e. record { b = b; c = c; accepted = a; over≥ = i .at≥; over< = i .at<; depth≡ = refl; c< = h; at≡ = refl };
+      }
+
+  at-end : {s : Spot} (r : Ref) → Inside pool n stop s → refOf n (wordAt pool (s .at)) ≡ r → Within n r → NoNode r → Ends pool n stop (endOf s r)
+  at-end Empty i e w h = record { inside = i; refers = e; within = w }
+  at-end (Leaf l) i e w h = record { inside = i; refers = e; within = w }
+  at-end (Node j) i e w h = absurd h
+  at-end Bad i e w h = omega arith
+
+  walks-inside : {key : ℕ} {s : Spot} {e : End} → Walks pool n key stop s e → Inside pool n stop s → Ends pool n stop e
+  walks-inside (ends r e w h q) i = rw q (at-end r i e w h)
+  walks-inside (damaged j e h q) i = rw q (omega arith)
+  walks-inside (stops j b a l q) i = rw q (record { inside = i; accepted = a; stop≤ = l })
+  walks-inside {key} (goes j b a l w) i = walks-inside w (below-inside i a l (digit-lt 16 key b))
+
+  pub walk-inside : (key : ℕ) {e : End} → e ≡ walkTo pool n key stop → Ends pool n stop e
+  walk-inside key q = rw q (walks-inside (walk-comes pool n key stop 17 root (omega arith) (omega arith)) root-inside)
+
+  few-nodes : (e : End) → Ends pool n stop e → nodesOf e ≤ 16
+  few-nodes (AtLeaf s i) h = omega arith
+  few-nodes (AtEmpty s) h = omega arith
+  few-nodes (Stopped s j b) h = omega arith
+  few-nodes (Damaged m) h = h
+
+  -- "how many nodes had an accepted header on its walk, at most 16"
+  pub walk-nodes : (key : ℕ) {e : End} → e ≡ walkTo pool n key stop → nodesOf e ≤ 16
+  walk-nodes key {e} q = few-nodes e (walk-inside key q)
+
+-- the plain walk does not stop
+pub walk-unstopped : {pool : List ℕ} {n : ℕ} → Sized pool n → (key : ℕ) {s : Spot} {j b : ℕ} → Stopped s j b ≡ walkOf pool n key → ⊥
+walk-unstopped z key q =
+    let h = walk-inside z 16 key q in
+    omega arith
+
+-- a walk that ends and is not stopped
+abbrev pub Unstopped : End → Type 0
+Unstopped (AtLeaf s i) = Unit {0}
+Unstopped (AtEmpty s) = Unit {0}
+Unstopped (Stopped s j b) = ⊥
+Unstopped (Damaged m) = Unit {0}
+
+module _ {pool : List ℕ} {n key stop : ℕ} where
+  no-stop : {s : Spot} {e : End} → Walks pool n key stop s e → Unstopped e → Walks pool n key 16 s e
+  no-stop (ends r e w h q) u = ends r e w h q
+  no-stop (damaged j e h q) u = damaged j e h q
+  no-stop (stops j b a l q) u = absurd (rw q at u)
+  no-stop (goes j b a l w) u = goes j b a (a .b<) (no-stop w u)
+
+-- and it ends where the plain walk does
+pub walk-whole : (pool : List ℕ) (n key stop : ℕ) {e : End} → e ≡ walkTo pool n key stop → Unstopped e → e ≡ walkOf pool n key
+walk-whole pool n key stop {e} q u =
+    let w : Walks pool n key stop root e = rw q (walk-comes pool n key stop 17 root (omega arith) (omega arith)) in
+    walk-end pool n key 16 (no-stop w u) 17 (omega arith) (omega arith)

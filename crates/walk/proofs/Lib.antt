@@ -1,0 +1,6 @@
+pub mod Loops
+pub mod Heads
+pub mod Walks
+pub mod Ends
+pub mod Nodes
+pub mod LowestLeaf

@@ -1,0 +1,57 @@
+-- The lowest leaf below a reference, one turn at a time; the bound on the nodes met is not seen.
+-- Assumes nothing.
+use mathlib.Core.Path.{_≡_, sym, _∙_}
+use mathlib.Core.List.{List}
+use Prim.Native.Nat.{ℕ, zero, suc, _+_, _≤_, _<_}
+use native.Mathlib.Decide.{decLt}
+use native.Mathlib.Omega.{arith}
+use borrow.Author.Tests.{lt-ltb, le-ltb}
+use Rattle.pool.specs.Places.{headerAt, childAt}
+use Rattle.pool.specs.Refs.{refOf}
+use Rattle.pool.specs.declared.Ref.{Ref}
+use Rattle.pool.specs.declared.Ref.the-variants.{Empty, Leaf, Node, Bad}
+use Rattle.walk.specs.declared.Head.the-variants.{Wrong}
+use Rattle.walk.specs.declared.Lowest.{Lowest}
+use Rattle.walk.specs.declared.Lowest.the-variants.{NoKey}
+use Rattle.walk.specs.Walks.{headOf, lowestChild, lowestEnd, lowestFrom}
+use Rattle.walk.specs.Ends.{Accepted}
+use Rattle.walk.proofs.Heads.{NoNode, no-node, wrong, node, met}
+
+module _ (pool : List ℕ) (n : ℕ) where
+  -- one turn of the definition
+  pub lowest-ends : (f w r : ℕ) (x : Ref) → refOf n r ≡ x → NoNode x → lowestFrom (suc f) pool n w r ≡ lowestEnd pool x
+  unfolding lowestFrom
+  lowest-ends f w r Empty e h = rw (e, lowestFrom)
+  lowest-ends f w r (Leaf i) e h = rw (e, lowestFrom)
+  lowest-ends f w r (Node j) e h = absurd h
+  lowest-ends f w r Bad e h = rw (e, lowestFrom)
+
+  pub lowest-damaged : (f w r j : ℕ) → refOf n r ≡ Node j → headOf w (headerAt pool n j) ≡ Wrong → lowestFrom (suc f) pool n w r ≡ NoKey
+  unfolding lowestFrom
+  lowest-damaged f w r j e h = rw (e, h, lowestFrom)
+
+  pub lowest-childless : (f w r j b : ℕ) → Accepted pool n w r j b → 16 ≤ lowestChild pool n j → lowestFrom (suc f) pool n w r ≡ NoKey
+  unfolding lowestFrom
+  lowest-childless f w r j b a l = rw (a .refers, a .head, le-ltb (lowestChild pool n j) 16 l, lowestFrom)
+
+  pub lowest-goes : (f w r j b : ℕ) → Accepted pool n w r j b → lowestChild pool n j < 16
+      → lowestFrom (suc f) pool n w r ≡ lowestFrom f pool n (b + 1) (childAt pool n j (lowestChild pool n j))
+  unfolding lowestFrom
+  lowest-goes f w r j b a l = rw (a .refers, a .head, lt-ltb (lowestChild pool n j) 16 l, lowestFrom)
+
+  -- with a bound that leaves one node for each digit that is left, the bound is not seen
+  pub lowest-fuel : (f g w r : ℕ) → w ≤ 16 → 17 ≤ f + w → 17 ≤ g + w → lowestFrom f pool n w r ≡ lowestFrom g pool n w r
+  lowest-fuel zero g w r d h l = absurd (omega arith)
+  lowest-fuel (suc f) zero w r d h l = absurd (omega arith)
+  lowest-fuel (suc f) (suc g) w r d h l =
+      elim (met pool n w r) [
+        | no-node x e i u ↦ lowest-ends f w r x e u ∙ sym (lowest-ends g w r x e u)
+        | wrong j e u ↦ lowest-damaged f w r j e u ∙ sym (lowest-damaged g w r j e u)
+        | node j b a ↦
+            elim (decLt (lowestChild pool n j) 16) [
+              | yes u ↦
+                  lowest-goes f w r j b a u ∙ lowest-fuel f g (b + 1) (childAt pool n j (lowestChild pool n j)) (omega (arith, a .b<)) (omega (arith, a .w≤b)) (omega (arith, a .w≤b))
+                  ∙ sym (lowest-goes g w r j b a u)
+              | no u ↦ lowest-childless f w r j b a (omega arith) ∙ sym (lowest-childless g w r j b a (omega arith))
+            ]
+      ]
