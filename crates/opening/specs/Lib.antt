@@ -1,2 +1,3 @@
 pub mod Surveys
 pub mod Openings
+pub mod Soundness
