@@ -1,0 +1,90 @@
+-- "3. Take a freshly formatted pool and its map. Make any sequence of puts and deletes, any of them cut before, between or after its stores, the
+-- stores reaching memory in order. After a cut the map is lost and opening is repeated, itself cut at any store, until one finishes. At every
+-- moment lookup and listing equal the plain table holding all finished operations, and a cut one wholly or not at all: a put counts from its
+-- last store, a delete from its first. An opening that is lent a map of the right length and is not cut gives 0, and no room is lost then."
+-- Assumes nothing.
+use mathlib.Core.Path.{_≡_}
+use mathlib.Core.Bool.{Bool, true, false}
+use mathlib.Core.Option.{Option, none, some}
+use mathlib.Core.List.{List}
+use Prim.Native.Nat.{ℕ, zero, suc, _≤_}
+use lib.Dec.{eqb}
+use lib.ListN.{length, take}
+use Rattle.digits.specs.Choice.{pick}
+use Rattle.tree.specs.Stores.{Store}
+use Rattle.pool.specs.Sizes.{bytesOf}
+use Rattle.plan.specs.Plans.{made, Decided}
+use Rattle.writing.specs.Puts.{putPlan}
+use Rattle.writing.specs.Deletes.{deletePlan}
+use Rattle.writing.specs.Calls.{Left, putOf, deleteOf, formatOf}
+use Rattle.opening.specs.Openings.{openPlan, openOf}
+use Rattle.demands.specs.Tables.{Table, blank, given, without, Word, Words, Reads}
+use Rattle.demands.specs.Demand2.{Reading}
+
+-- an operation: a put of a file number under a name, or a delete of a name
+pub data Op : Type 0 where
+  put : (k v : ℕ) → Word k → Word v → Op
+  delete : (k : ℕ) → Word k → Op
+
+-- its plan, its whole call, and what it does to the plain table
+abbrev pub planned : Op → List ℕ → List ℕ → Decided
+planned (put k v hk hv) pool map = putPlan pool map k v
+planned (delete k hk) pool map = deletePlan pool k
+
+abbrev pub whole : Op → List ℕ → List ℕ → Left
+whole (put k v hk hv) pool map = putOf pool map k v
+whole (delete k hk) pool map = deleteOf pool map k
+
+abbrev pub effect : Op → Table → Table
+effect (put k v hk hv) T = given k v T
+effect (delete k hk) T = without k T
+
+-- "the stores reaching memory in order": a cut leaves the first n of a plan's stores. What a cut can leave of the stores σ, and whether the
+-- operation then counts, is a parameter of what follows.
+abbrev pub Cut : Type 1
+Cut = Op → List Store → List Store → Bool → Type 0
+
+-- "a put counts from its last store, a delete from its first"
+abbrev pub counts : Op → ℕ → ℕ → Bool
+counts (put k v hk hv) n all = eqb n all
+counts (delete k hk) zero all = false
+counts (delete k hk) (suc n) all = true
+
+pub data InOrder : Op → List Store → List Store → Bool → Type 0 where
+  before : {o : Op} {σ : List Store} (n : ℕ) → n ≤ length σ → InOrder o σ (take n σ) (counts o n (length σ))
+
+-- opening's first n stores, each the answer of the planning call on the pool as it then is
+unfoldable pub openSteps : ℕ → List ℕ → List ℕ
+openSteps zero pool = pool
+openSteps (suc n) pool = openSteps n (made (openPlan pool .stores) pool)
+
+-- a pool of n leaves, its map where there is one, and the plain table of all finished operations and of cut ones that count
+pub data Reach (C : Cut) (n : ℕ) : List ℕ → Option (List ℕ) → Table → Type 0 where
+  -- "Take a freshly formatted pool and its map."
+  fresh : (pool map : List ℕ) → Words pool → formatOf pool map n .number ≡ 0 → Reach C n (formatOf pool map n .pool) (some (formatOf pool map n .map)) blank
+  -- "Make any sequence of puts and deletes"
+  done : {pool map : List ℕ} {T : Table} (o : Op) → Reach C n pool (some map) T → whole o pool map .done .number ≡ 0
+      → Reach C n (whole o pool map .pool) (some (whole o pool map .map)) (effect o T)
+  refused : {pool map : List ℕ} {T : Table} (o : Op) → Reach C n pool (some map) T → (whole o pool map .done .number ≡ 0 → ⊥)
+      → Reach C n (whole o pool map .pool) (some (whole o pool map .map)) T
+  -- "any of them cut before, between or after its stores" "After a cut the map is lost"
+  cut : {pool map : List ℕ} {T : Table} (o : Op) {τ : List Store} {b : Bool} → Reach C n pool (some map) T → planned o pool map .number ≡ 0
+      → C o (planned o pool map .stores) τ b → Reach C n (made τ pool) none (pick b (effect o T) T)
+  lost : {pool map : List ℕ} {T : Table} → Reach C n pool (some map) T → Reach C n pool none T
+  -- "opening is repeated, itself cut at any store"
+  reopening : {pool : List ℕ} {T : Table} (k : ℕ) → Reach C n pool none T → Reach C n (openSteps k pool) none T
+  -- "until one finishes"
+  opened : {pool : List ℕ} {T : Table} (bytes : List ℕ) → Reach C n pool none T → length bytes ≡ bytesOf n
+      → Reach C n (openOf pool bytes .pool) (some (openOf pool bytes .map)) T
+
+-- what is promised of every state that is reached
+pub record Promised (n : ℕ) (pool : List ℕ) (map : Option (List ℕ)) (T : Table) : Type 0 where
+  -- "At every moment lookup and listing equal the plain table"
+  pub reads : Reads pool T
+  -- "An opening that is lent a map of the right length and is not cut gives 0"
+  pub opens : (bytes : List ℕ) → length bytes ≡ bytesOf n → openOf pool bytes .answer .number ≡ 0
+  -- "and no room is lost then": where there is a map, the pool and the map are as demand 2 asks, with the same table
+  pub room : (bytes : List ℕ) → map ≡ some bytes → (r : Reading pool bytes T) × (r .sound .n ≡ n)
+
+abbrev pub Demand3Holds : Type 0
+Demand3Holds = (n : ℕ) (pool : List ℕ) (map : Option (List ℕ)) (T : Table) → Reach InOrder n pool map T → Promised n pool map T

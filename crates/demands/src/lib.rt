@@ -1,0 +1,1 @@
+// No code: what the auditor is handed, and its proofs.
