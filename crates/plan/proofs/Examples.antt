@@ -1,0 +1,71 @@
+-- Examples of plans, by computation.
+-- Assumes nothing.
+use mathlib.Core.Path.{_≡_, refl}
+use mathlib.Core.List.{List, [], _∷_}
+use Prim.Native.Nat.{ℕ}
+use Rattle.tree.specs.Stores.{Store}
+use Rattle.plan.specs.declared.Plan.{Plan}
+use Rattle.plan.specs.declared.Effect.the-variants.{TakesLeaf, TakesBoth, FreesBoth}
+use Rattle.plan.specs.Plans.{made, planOf, after, stepOf, finishOf, ran, stepsFrom, runOf}
+
+-- two stores, word 3 := 40 and then word 1 := 2, that take byte 0 of the map
+stores : List Store
+stores = record { word = 3; value = 40 } ∷ record { word = 1; value = 2 } ∷ []
+
+two : Plan
+two = planOf stores (TakesLeaf 0)
+
+pool : List ℕ
+pool = 9 ∷ 9 ∷ 9 ∷ 9 ∷ []
+
+-- laid out in its arrays, unused places 0
+laid-out :
+    two ≡
+    record {
+      words = 3 ∷ 1 ∷ 0 ∷ 0 ∷ 0 ∷ 0 ∷ 0 ∷ 0 ∷ 0 ∷ 0 ∷ 0 ∷ 0 ∷ 0 ∷ 0 ∷ 0 ∷ 0 ∷ 0 ∷ 0 ∷ 0 ∷ 0 ∷ 0 ∷ [];
+      values = 40 ∷ 2 ∷ 0 ∷ 0 ∷ 0 ∷ 0 ∷ 0 ∷ 0 ∷ 0 ∷ 0 ∷ 0 ∷ 0 ∷ 0 ∷ 0 ∷ 0 ∷ 0 ∷ 0 ∷ 0 ∷ 0 ∷ 0 ∷ 0 ∷ [];
+      count = 2;
+      effect = TakesLeaf 0;
+    }
+unfolding two stores
+laid-out = refl
+
+-- each step makes its own store and no other
+first-step : stepOf two 0 pool ≡ after 0 (9 ∷ 9 ∷ 9 ∷ 40 ∷ [])
+unfolding two stores pool stepOf
+first-step = refl
+
+second-step : stepOf two 1 pool ≡ after 0 (9 ∷ 2 ∷ 9 ∷ 9 ∷ [])
+unfolding two stores pool stepOf
+second-step = refl
+
+past-the-count : stepOf two 2 pool ≡ after 5 pool
+unfolding two stores pool stepOf
+past-the-count = refl
+
+word-outside : stepOf two 0 (9 ∷ 9 ∷ 9 ∷ []) ≡ after 5 (9 ∷ 9 ∷ 9 ∷ [])
+unfolding two stores stepOf
+word-outside = refl
+
+count-over : stepOf (record { words = two .words; values = two .values; count = 22; effect = two .effect }) 0 pool ≡ after 5 pool
+unfolding two stores pool stepOf
+count-over = refl
+
+-- a run of one step, and of as many as the plan has
+cut-run : runOf 1 two pool ≡ ran 1 (9 ∷ 9 ∷ 9 ∷ 40 ∷ [])
+unfolding two stores pool stepOf stepsFrom
+cut-run = refl
+
+whole-run : runOf 21 two pool ≡ ran 2 (9 ∷ 2 ∷ 9 ∷ 40 ∷ [])
+unfolding two stores pool stepOf stepsFrom
+whole-run = refl
+
+-- taken bytes become 1, freed bytes 0; where one is outside, neither changes
+taken-both : finishOf (TakesBoth 0 2) (0 ∷ 0 ∷ 0 ∷ []) ≡ after 0 (1 ∷ 0 ∷ 1 ∷ [])
+taken-both = refl
+
+freed-both : finishOf (FreesBoth 0 2) (1 ∷ 1 ∷ 7 ∷ []) ≡ after 0 (0 ∷ 1 ∷ 0 ∷ [])
+freed-both = refl
+
+byte-outside : finishOf (TakesBoth 0 3) (0 ∷ 0 ∷ 0 ∷ []) ≡ after 5 (0 ∷ 0 ∷ 0 ∷ [])
+byte-outside = refl

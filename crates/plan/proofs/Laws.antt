@@ -1,0 +1,288 @@
+-- Laws of plans: what their stores leave, what a step, a run and a finish do, and that each promise has one outcome.
+-- Assumes nothing.
+use mathlib.Core.Path.{_≡_, refl, sym, ap, _∙_}
+use mathlib.Core.Logic.{_≢_, _⊎_, inl, inr, ⊎-elim}
+use mathlib.Core.Bool.{Bool, true, false}
+use mathlib.Core.List.{List, [], _∷_, _++_, map}
+use Prim.Native.Nat.{ℕ, zero, suc, _+_, _-_, _≤_, _<_, min}
+use native.Mathlib.Nat.{zero-add, le-of-suc-le-suc, not-suc-le-zero}
+use native.Mathlib.Numerals.{add-one}
+use native.Mathlib.Omega.{arith}
+use borrow.Author.Tests.{lt-ltb, le-ltb, le-leb, lt-leb}
+use lib.Dec.{eqb, leb, ltb}
+use lib.ListN.{length, getD, set, take, replicate, length-set, length-map, List·getD-map}
+use lib.Seq.{lt-length-set, take-all, take-suc, getD-set-same, getD-set-other}
+use Rattle.digits.specs.Choice.{pick}
+use Rattle.tree.specs.Tree.{upd}
+use Rattle.tree.specs.Shape.{Mem}
+use Rattle.tree.specs.Stores.{Store, run}
+use Rattle.tree.proofs.Basics.{Same?, same, other, same?, less?, upd-case}
+use Rattle.tree.proofs.Stores.{Words, words-more}
+use Rattle.plan.specs.declared.Plan.{Plan}
+use Rattle.plan.specs.declared.Effect.{Effect}
+use Rattle.plan.specs.declared.Effect.the-variants.{Nothing, TakesLeaf, TakesBoth, FreesLeaf, FreesBoth}
+use Rattle.plan.specs.Plans.{made, planOf, After, after, storeOf, storesOf, stepOf, finishOf, Ran, ran, stepsFrom, runOf}
+use Rattle.plan.specs.Effects.{takes, frees, has, byteOf, Below, Inside}
+
+-- ---- the stores of a list
+pub made-append : (σ τ : List Store) (l : List ℕ) → made (σ ++ τ) l ≡ made τ (made σ l)
+unfolding made
+made-append [] τ l = refl
+made-append (s ∷ σ) τ l = made-append σ τ (set l (s .word) (s .value))
+
+pub length-made : (σ : List Store) (l : List ℕ) → length (made σ l) ≡ length l
+unfolding made
+length-made [] l = refl
+length-made (s ∷ σ) l = length-made σ (set l (s .word) (s .value)) ∙ length-set l (s .word) (s .value)
+
+-- a word that no store names keeps its value
+pub made-off : (σ : List Store) (l : List ℕ) (i : ℕ) → Words (λ w. i ≢ w) σ → getD (made σ l) i 0 ≡ getD l i 0
+unfolding made Words
+made-off [] l i off = refl
+made-off (s ∷ σ) l i off = made-off σ (set l (s .word) (s .value)) i (off .1) ∙ getD-set-other l (s .word) i (s .value) 0 (off .0)
+
+-- words that are those of a memory are those of the memory after the same stores
+pub made-same : (σ : List Store) (l : List ℕ) (m : Mem) → Words (λ w. w < length l) σ → ((i : ℕ) → getD l i 0 ≡ m i) → (i : ℕ) → getD (made σ l) i 0 ≡ run σ m i
+unfolding made run Words
+made-same [] l m inside eq i = eq i
+made-same (s ∷ σ) l m inside eq i =
+    let l′ = set l (s .word) (s .value) in
+    made-same σ l′ (upd m (s .word) (s .value))
+    (words-more (λ w. w < length l) (λ w. w < length l′) σ (λ w h. lt-length-set l (s .word) (s .value) h) (inside .1))
+    (λ j. upd-case (λ d x. getD l′ d 0 ≡ x) m (s .word) (s .value) j (getD-set-same l (s .word) (s .value) 0 (inside .0)) (λ n. getD-set-other l (s .word) j (s .value) 0 n ∙ eq j))
+    i
+
+pub made-run : (σ : List Store) (l : List ℕ) → Words (λ w. w < length l) σ → (i : ℕ) → getD (made σ l) i 0 ≡ run σ (λ j. getD l j 0) i
+made-run σ l inside = made-same σ l (λ j. getD l j 0) inside (λ i. refl)
+
+-- ---- the places of a plan
+-- a place that a plan does not use
+abbrev pub unused : Store
+unused = record { word = 0; value = 0 }
+
+repeated-at : (n m i d : ℕ) → getD (take n (replicate m d)) i d ≡ d
+repeated-at zero m i d = refl
+repeated-at (suc n) zero i d = refl
+repeated-at (suc n) (suc m) zero d = refl
+repeated-at (suc n) (suc m) (suc i) d = repeated-at n m i d
+
+padded-at : (n m : ℕ) (l : List ℕ) (i d : ℕ) → length l ≤ n → getD (take n (l ++ replicate m d)) i d ≡ getD l i d
+padded-at n m [] i d few = repeated-at n m i d
+padded-at zero m (x ∷ l) i d few = absurd (not-suc-le-zero few)
+padded-at (suc n) m (x ∷ l) zero d few = refl
+padded-at (suc n) m (x ∷ l) (suc i) d few = padded-at n m l i d (le-of-suc-le-suc few)
+
+-- every store's word has what one store's word is asked for
+pub words-at : (P : ℕ → Type 0) (σ : List Store) (i : ℕ) → i < length σ → Words P σ → P (getD σ i unused .word)
+unfolding Words
+words-at P [] i h all = absurd (not-suc-le-zero h)
+words-at P (s ∷ σ) zero h all = all .0
+words-at P (s ∷ σ) (suc i) h all = words-at P σ i (le-of-suc-le-suc h) (all .1)
+
+-- one store more
+pub made-next : (σ : List Store) (i : ℕ) (l : List ℕ) → i < length σ → made (take (i + 1) σ) l ≡ set (made (take i σ) l) (getD σ i unused .word) (getD σ i unused .value)
+unfolding made
+made-next σ i l h = rw (add-one i, take-suc σ i unused h, made-append (take i σ) (getD σ i unused ∷ []) l)
+
+-- ---- one step
+-- it makes its store, or refuses and leaves the words as they were
+abbrev Stepped : Plan → ℕ → List ℕ → After → Type 0
+Stepped p i l a = (a ≡ after 0 (set l (getD (p .words) i 0) (getD (p .values) i 0))) ⊎ (a ≡ after 5 l)
+
+step-either : (p : Plan) (i : ℕ) (l : List ℕ) → Stepped p i l (stepOf p i l)
+unfolding stepOf
+step-either p i l = go (ltb 21 (p .count)) (leb (p .count) i) (ltb (getD (p .words) i 0) (length l))
+  where
+    go : (a b c : Bool) → Stepped p i l (pick a (after 5 l) (pick b (after 5 l) (pick c (after 0 (set l (getD (p .words) i 0) (getD (p .values) i 0))) (after 5 l))))
+    go true b c = inr refl
+    go false true c = inr refl
+    go false false true = inl refl
+    go false false false = inr refl
+
+-- ---- the steps from one on
+-- after the first of them, by what it gave
+abbrev goneOn : ℕ → Plan → ℕ → List ℕ → After → Ran
+goneOn n p i l a = elim (eqb (a .number) 0) [ true ↦ stepsFrom n p (i + 1) (a .left) | false ↦ ran i l ]
+
+steps-suc : (n : ℕ) (p : Plan) (i : ℕ) (l : List ℕ) {a : After} → stepOf p i l ≡ a → stepsFrom (suc n) p i l ≡ goneOn n p i l a
+unfolding stepsFrom
+steps-suc n p i l e = ap (goneOn n p i l) e
+
+-- a step that was made leaves the steps after it
+pub steps-next : (p : Plan) (n i : ℕ) {r : ℕ} (l : List ℕ) {m : List ℕ} → i < n → r ≡ 0 → after r m ≡ stepOf p i l → stepsFrom (n - i) p i l ≡ stepsFrom (n - (i + 1)) p (i + 1) m
+steps-next p n i l {m} h z a =
+    let e : n - i ≡ suc (n - (i + 1)) = omega arith in
+    rw e (steps-suc (n - (i + 1)) p i l (sym a ∙ ap (λ (k : ℕ). after k m) z))
+
+-- a refused step is the last
+pub steps-end : (p : Plan) (n i : ℕ) {r : ℕ} (l : List ℕ) {m : List ℕ} → i < n → r ≢ 0 → after r m ≡ stepOf p i l → stepsFrom (n - i) p i l ≡ ran i m
+steps-end p n i l {m} h z a =
+    let e : n - i ≡ suc (n - (i + 1)) = omega arith in
+    rw e
+    (⊎-elim (λ s. absurd (z (ap (λ (x : After). x .number) (a ∙ s)))) (λ s. steps-suc (n - (i + 1)) p i l s ∙ ap (λ (x : After). ran i (x .left)) (sym (a ∙ s))) (step-either p i l))
+
+-- none are left
+pub steps-none : (p : Plan) (n i : ℕ) (l : List ℕ) → n ≤ i → stepsFrom (n - i) p i l ≡ ran i l
+unfolding stepsFrom
+steps-none p n i l h =
+    let e : n - i ≡ 0 = omega arith in
+    rw e
+
+-- ---- a step and a run of a plan of at most 21 stores
+module _ (σ : List Store) (e : Effect) (few : length σ ≤ 21) where
+  place-at : (f : Store → ℕ) (i : ℕ) → getD (take 21 (map f σ ++ replicate 21 (f unused))) i (f unused) ≡ f (getD σ i unused)
+  place-at f i = padded-at 21 21 (map f σ) i (f unused) (rw (length-map σ f) few) ∙ List·getD-map f σ i unused
+
+  -- place i of the plan holds store i; unused places 0
+  pub plan-word : (i : ℕ) → getD (planOf σ e .words) i 0 ≡ getD σ i unused .word
+  plan-word i = place-at (λ s. s .word) i
+
+  pub plan-value : (i : ℕ) → getD (planOf σ e .values) i 0 ≡ getD σ i unused .value
+  plan-value i = place-at (λ s. s .value) i
+
+  -- a step at or past the count is refused
+  pub step-past : (i : ℕ) (pool : List ℕ) → length σ ≤ i → stepOf (planOf σ e) i pool ≡ after 5 pool
+  unfolding stepOf
+  step-past i pool h = rw (le-ltb 21 (length σ) few, le-leb (length σ) i h)
+
+  -- a step makes its store
+  pub step-made : (pool : List ℕ) → Words (λ w. w < length pool) σ → (i : ℕ) → i < length σ → stepOf (planOf σ e) i pool ≡ after 0 (set pool (getD σ i unused .word) (getD σ i unused .value))
+  unfolding stepOf
+  step-made pool inside i h =
+      rw (le-ltb 21 (length σ) few, lt-leb (length σ) i h, plan-word i, plan-value i, lt-ltb (getD σ i unused .word) (length pool) (words-at (λ w. w < length pool) σ i h inside))
+
+  module _ (pool : List ℕ) (inside : Words (λ w. w < length pool) σ) where
+    -- after the stores before it, a step makes the next
+    pub step-after : (i : ℕ) → i < length σ → stepOf (planOf σ e) i (made (take i σ) pool) ≡ after 0 (made (take (i + 1) σ) pool)
+    step-after i h =
+        let l = made (take i σ) pool in
+        step-made l (words-more (λ w. w < length pool) (λ w. w < length l) σ (λ w b. omega (arith, length-made (take i σ) pool)) inside) i h ∙ ap (after 0) (sym (made-next σ i pool h))
+
+    steps-made : (n i : ℕ) → i ≤ length σ → stepsFrom n (planOf σ e) i (made (take i σ) pool) ≡ ran (min (i + n) (length σ)) (made (take (i + n) σ) pool)
+    unfolding stepsFrom
+    steps-made zero i h =
+        let z : i + 0 ≡ i = omega arith in
+        let a : min i (length σ) ≡ i = omega arith in
+        rw (z, a)
+    steps-made (suc n) i h = go (steps-made n (i + 1)) (less? i (length σ))
+      where
+        go : (i + 1 ≤ length σ → stepsFrom n (planOf σ e) (i + 1) (made (take (i + 1) σ) pool) ≡ ran (min (i + 1 + n) (length σ)) (made (take (i + 1 + n) σ) pool))
+            → (i < length σ) ⊎ (length σ ≤ i)
+            → stepsFrom (suc n) (planOf σ e) i (made (take i σ) pool) ≡ ran (min (i + suc n) (length σ)) (made (take (i + suc n) σ) pool)
+        go ih (inl l) =
+            let k : i + suc n ≡ i + 1 + n = omega arith in
+            rw k (steps-suc n (planOf σ e) i (made (take i σ) pool) (step-after i l) ∙ ih (omega arith))
+        go ih (inr l) =
+            let a : min (i + suc n) (length σ) ≡ i = omega arith in
+            rw (a, take-all (i + suc n) σ (omega arith), take-all i σ l) (steps-suc n (planOf σ e) i (made σ pool) (step-past i (made σ pool) l))
+
+    -- a run makes the stores in their order, and says how many
+    pub run-made : (n : ℕ) → runOf n (planOf σ e) pool ≡ ran (min n (length σ)) (made (take n σ) pool)
+    unfolding made
+    run-made n = rw zero-add at (steps-made n 0 (omega arith))
+
+    pub run-whole : (n : ℕ) → length σ ≤ n → runOf n (planOf σ e) pool ≡ ran (length σ) (made σ pool)
+    run-whole n h =
+        let a : min n (length σ) ≡ length σ = omega arith in
+        rw (a, take-all n σ h) at (run-made n)
+
+-- ---- finishing
+-- a store of v to each of these bytes
+abbrev marks : ℕ → List ℕ → List Store
+marks v [] = []
+marks v (y ∷ ys) = record { word = y; value = v } ∷ marks v ys
+
+marks-at : (v : ℕ) (ys l : List ℕ) (x : ℕ) → Below (length l) ys → getD (made (marks v ys) l) x 0 ≡ pick (has x ys) v (getD l x 0)
+unfolding made
+marks-at v [] l x h = refl
+marks-at v (y ∷ ys) l x h = marks-at v ys (set l y v) x (rw (length-set l y v) (h .1)) ∙ go (same? x y)
+  where
+    either : (t : Bool) → pick t v v ≡ v
+    either true = refl
+    either false = refl
+
+    go : Same? x y → pick (has x ys) v (getD (set l y v) x 0) ≡ pick (pick (eqb x y) true (has x ys)) v (getD l x 0)
+    go (same e q) = rw (q, e, getD-set-same l y v 0 (h .0)) (either (has y ys))
+    go (other n q) = rw (q, getD-set-other l y x v 0 n)
+
+-- ys set to v where all are inside; else nothing changes
+abbrev Stored : List ℕ → ℕ → List ℕ → After → Type 0
+Stored ys v l a = (Below (length l) ys × (a ≡ after 0 (made (marks v ys) l))) ⊎ ((Below (length l) ys → ⊥) × (a ≡ after 5 l))
+
+store-stored : (y v : ℕ) (l : List ℕ) → Stored (y ∷ []) v l (storeOf y v l)
+unfolding made
+store-stored y v l = go (less? y (length l))
+  where
+    go : (y < length l) ⊎ (length l ≤ y) → Stored (y ∷ []) v l (storeOf y v l)
+    go (inl h) = inl ((h, tt), rw (lt-ltb y (length l) h))
+    go (inr h) = inr ((λ b. omega (arith, b .0)), rw (le-ltb y (length l) h))
+
+stores-stored : (y z v : ℕ) (l : List ℕ) → Stored (y ∷ z ∷ []) v l (storesOf y z v l)
+unfolding made
+stores-stored y z v l = go (less? y (length l)) (less? z (length l))
+  where
+    go : (y < length l) ⊎ (length l ≤ y) → (z < length l) ⊎ (length l ≤ z) → Stored (y ∷ z ∷ []) v l (storesOf y z v l)
+    go (inl h) (inl k) = inl ((h, (k, tt)), rw (lt-ltb y (length l) h, lt-ltb z (length l) k))
+    go (inl h) (inr k) = inr ((λ b. omega (arith, b .1 .0)), rw (lt-ltb y (length l) h, le-ltb z (length l) k))
+    go (inr h) k = inr ((λ b. omega (arith, b .0)), rw (le-ltb y (length l) h))
+
+-- ys taken and zs freed where all are inside; else nothing changes
+abbrev Finished : List ℕ → List ℕ → List ℕ → After → Type 0
+Finished ys zs l a =
+    ((Below (length l) ys × Below (length l) zs) × (a ≡ after 0 (made (marks 1 ys) (made (marks 0 zs) l))))
+    ⊎ ((Below (length l) ys × Below (length l) zs → ⊥) × (a ≡ after 5 l))
+
+taken : (ys l : List ℕ) (a : After) → Stored ys 1 l a → Finished ys [] l a
+unfolding made
+taken ys l a (inl h) = inl ((h .0, tt), h .1)
+taken ys l a (inr h) = inr ((λ b. h .0 (b .0)), h .1)
+
+freed : (zs l : List ℕ) (a : After) → Stored zs 0 l a → Finished [] zs l a
+unfolding made
+freed zs l a (inl h) = inl ((tt, h .0), h .1)
+freed zs l a (inr h) = inr ((λ b. h .0 (b .1)), h .1)
+
+finished : (e : Effect) (bytes : List ℕ) → Finished (takes e) (frees e) bytes (finishOf e bytes)
+unfolding made
+finished Nothing bytes = inl ((tt, tt), refl)
+finished (TakesLeaf a) bytes = taken (a ∷ []) bytes (storeOf a 1 bytes) (store-stored a 1 bytes)
+finished (TakesBoth a b) bytes = taken (a ∷ b ∷ []) bytes (storesOf a b 1 bytes) (stores-stored a b 1 bytes)
+finished (FreesLeaf a) bytes = freed (a ∷ []) bytes (storeOf a 0 bytes) (store-stored a 0 bytes)
+finished (FreesBoth a b) bytes = freed (a ∷ b ∷ []) bytes (storesOf a b 0 bytes) (stores-stored a b 0 bytes)
+
+module _ (e : Effect) (bytes : List ℕ) where
+  -- the bytes stay as many
+  pub length-finish : length (finishOf e bytes .left) ≡ length bytes
+  length-finish =
+      ⊎-elim (λ h. rw (h .1) (length-made (marks 1 (takes e)) (made (marks 0 (frees e)) bytes) ∙ length-made (marks 0 (frees e)) bytes)) (λ h. rw (h .1)) (finished e bytes)
+
+  -- a named byte is outside
+  pub finish-refused : (Inside e (length bytes) → ⊥) → finishOf e bytes ≡ after 5 bytes
+  finish-refused out = ⊎-elim (λ h. absurd (out (h .0))) (λ h. h .1) (finished e bytes)
+
+  module _ (inside : Inside e (length bytes)) where
+    finish-made : finishOf e bytes ≡ after 0 (made (marks 1 (takes e)) (made (marks 0 (frees e)) bytes))
+    finish-made = ⊎-elim (λ h. h .1) (λ h. absurd (h .0 inside)) (finished e bytes)
+
+    pub finish-done : finishOf e bytes .number ≡ 0
+    finish-done = rw finish-made
+
+    -- what each byte is afterwards
+    pub finish-at : (x : ℕ) → getD (finishOf e bytes .left) x 0 ≡ byteOf e x (getD bytes x 0)
+    finish-at x =
+        let l = made (marks 0 (frees e)) bytes in
+        rw finish-made
+        (marks-at 1 (takes e) l x (rw (length-made (marks 0 (frees e)) bytes) (inside .0)) ∙ ap (pick (has x (takes e)) 1) (marks-at 0 (frees e) bytes x (inside .1)))
+
+-- ---- each promise has one outcome
+after-unique : {a : After} {r r′ : ℕ} {l l′ : List ℕ} → after r l ≡ a → after r′ l′ ≡ a → (r ≡ r′) × (l ≡ l′)
+after-unique p q = (ap (λ (a : After). a .number) (p ∙ sym q), ap (λ (a : After). a .left) (p ∙ sym q))
+
+pub step-unique : (p : Plan) (i : ℕ) (pool : List ℕ) {r r′ : ℕ} {l l′ : List ℕ} → after r l ≡ stepOf p i pool → after r′ l′ ≡ stepOf p i pool → (r ≡ r′) × (l ≡ l′)
+step-unique p i pool = after-unique
+
+pub finish-unique : (e : Effect) (bytes : List ℕ) {r r′ : ℕ} {l l′ : List ℕ} → after r l ≡ finishOf e bytes → after r′ l′ ≡ finishOf e bytes → (r ≡ r′) × (l ≡ l′)
+finish-unique e bytes = after-unique
+
+pub run-unique : (n : ℕ) (p : Plan) (pool : List ℕ) {r r′ : ℕ} {l l′ : List ℕ} → ran r l ≡ runOf n p pool → ran r′ l′ ≡ runOf n p pool → (r ≡ r′) × (l ≡ l′)
+run-unique n p pool a b = (ap (λ (x : Ran). x .steps) (a ∙ sym b), ap (λ (x : Ran). x .left) (a ∙ sym b))
