@@ -1,19 +1,17 @@
 -- A pool that holds a good tree holds the tree that it is read as.
 -- Assumes nothing.
-use mathlib.Core.Path.{_≡_, refl, sym, ap, _∙_, subst}
-use mathlib.Core.Logic.{_≢_, _⊎_, inl, inr}
+use mathlib.Core.Path.{_≡_, refl, sym, ap, _∙_}
 use Prim.Native.Nat.{ℕ, zero, suc, _+_, _≤_, _<_}
-use mathlib.Core.Bool.{Bool, true, false}
 use native.Mathlib.Omega.{arith}
 use lib.Dec.{eqb}
 use Rattle.digits.specs.Choice.{pick}
-use Rattle.tree.specs.Tree.{Tree, empty, leaf, node, upd, sum, one, mult, Filled, Two, Agree, find, Good}
-use Rattle.tree.specs.Shape.{View, none-there, leaf-there, node-there, bad, Mem, Shape, Head, Holds}
-use Rattle.digits.specs.Loops.{scan}
-use Rattle.tree.specs.Near.{low, filled}
+use Rattle.tree.specs.Tree.{Tree, empty, leaf, node, upd, one, mult, Filled, Two, Agree, Good}
+use Rattle.tree.specs.Shape.{node-there, Mem, Shape, Holds}
+use Rattle.tree.specs.Near.{low}
 use Rattle.tree.specs.Grow.{lowNode, grow}
-use Rattle.tree.proofs.Basics.{Same?, same, other, same?, upd-case, sum-same}
-use Rattle.tree.proofs.Place.{low-agrees}
+use Rattle.tree.proofs.Basics.{Same?, same, other, same?, sum-same}
+use Rattle.tree.proofs.Places.{good-same}
+use Rattle.tree.proofs.Near.{low-agrees}
 
 upd-same : (b c : ℕ) (q q′ : ℕ → ℕ) → ((i : ℕ) → i < b → q i ≡ q′ i) → (i : ℕ) → i < b + 1 → upd q b c i ≡ upd q′ b c i
 upd-same b c q q′ e i h = go (same? i b)
@@ -23,13 +21,6 @@ upd-same b c q q′ e i h = go (same? i b)
     go (other z p) = rw p (e i (omega arith))
 
 module _ (dig : ℕ → ℕ → ℕ) (D : ℕ) {A : Type 0} where
-  -- only the first w digits of q matter
-  pub good-same : (w : ℕ) (q q′ : ℕ → ℕ) (t : Tree A) → ((i : ℕ) → i < w → q i ≡ q′ i) → Good dig D w q t → Good dig D w q′ t
-  unfolding Good
-  good-same w q q′ empty e g = tt
-  good-same w q q′ (leaf x k v) e g = λ i h. g i h ∙ e i h
-  good-same w q q′ (node x b s kids) e g = (g .0, g .1, λ i h. g .2 i h ∙ e i h, g .3, g .4)
-
   module _ (S : Shape A) (dl : (k i : ℕ) → dig k i < 16) (stored-same : (h b s s′ : ℕ) → Agree dig b (dig s) s′ → S .stored h b s ≡ S .stored h b s′) where
     -- t′ is as good as t
     pub record Like (m : Mem) (w r : ℕ) (q : ℕ → ℕ) (t t′ : Tree A) : Type 0 where
@@ -68,7 +59,7 @@ module _ (dig : ℕ → ℕ → ℕ) (D : ℕ) {A : Type 0} where
             g .0,
             g .1,
             λ i o. a i (omega arith) ∙ g .2 i o,
-            λ c l. good-same (b + 1) (upd (dig s) b c) (upd (dig s′) b c) (kids′ c) (upd-same b c (dig s) (dig s′) (λ i o. sym (a i o))) (like c l .good),
+            λ c l. good-same dig D (b + 1) (upd (dig s) b c) (upd (dig s′) b c) (kids′ c) (upd-same b c (dig s) (dig s′) (λ i o. sym (a i o))) (like c l .good),
             two,
           );
           count = λ y. ap (one (eqb y x) +_) (sum-same 16 (λ c. mult y (kids′ c)) (λ c. mult y (kids c)) (λ c l. like c l .count y));

@@ -1,29 +1,49 @@
--- The tree that a split makes.
+-- The tree that a split makes: a new node over the new leaf and the old target.
 -- Assumes nothing.
-use mathlib.Core.Path.{_≡_, refl, sym, ap, _∙_, subst}
-use mathlib.Core.Logic.{_≢_, _⊎_, inl, inr}
-use mathlib.Core.Option.{Option, none, some}
-use Prim.Native.Nat.{ℕ, zero, suc, _+_, _≤_, _<_}
-use mathlib.Core.Bool.{Bool, true, false}
-use mathlib.Core.List.{List, [], _∷_}
+use mathlib.Core.Path.{_≡_, refl, sym, ap, _∙_}
+use mathlib.Core.Logic.{_≢_}
+use mathlib.Core.Option.{none, some}
+use Prim.Native.Nat.{ℕ, _+_, _≤_, _<_}
 use native.Mathlib.Omega.{arith}
 use lib.Dec.{eqb}
 use borrow.Author.Tests.{eq-eqb, ne-eqb}
-use Rattle.digits.specs.Choice.{pick}
-use Rattle.tree.specs.Tree.{Tree, empty, leaf, node, upd, sum, one, mult, Filled, Two, Agree, find, Good}
-use Rattle.tree.specs.Shape.{View, none-there, leaf-there, node-there, bad, Mem, SameIn, Shape, Head, Holds}
-use Rattle.tree.proofs.Basics.{Same?, same, other, same?, upd-case, upd-at, upd-off}
-use Rattle.tree.proofs.Laws.{found-agrees}
+use Rattle.tree.specs.Tree.{Tree, empty, leaf, node, upd, one, mult, Filled, Agree, find, Good}
+use Rattle.tree.specs.Shape.{none-there, leaf-there, Mem, Shape, Head, Holds}
+use Rattle.tree.proofs.Basics.{upd-case, upd-at, upd-off, sum-upd, sum-zero}
+use Rattle.tree.proofs.Places.{agree-down, not-found}
+use Rattle.tree.proofs.Near.{Past}
 
--- node y branches at f: the leaf z for k, and the old target at digit c
+-- the children of a node that has the leaf z for k at digit a, and t at digit c
 unfoldable pub splitKids : {A : Type 0} → ℕ → ℕ → ℕ → A → ℕ → Tree A → ℕ → Tree A
 splitKids a z k v c t = upd (upd (λ i. empty) c t) a (leaf z k v)
 
+-- the node y that branches at f
 unfoldable pub splitTree : {A : Type 0} → (ℕ → ℕ → ℕ) → ℕ → ℕ → ℕ → ℕ → A → ℕ → Tree A → Tree A
 splitTree dig y f z k v c t = node y f k (splitKids (dig k f) z k v c t)
 
+-- ---- the target of a split
+pub past-filled : {A : Type 0} (dig : ℕ → ℕ → ℕ) (f k₂ : ℕ) (t : Tree A) → Past dig f k₂ t → Filled t
+past-filled dig f k₂ empty p = absurd p
+past-filled dig f k₂ (leaf x k v) p = tt
+past-filled dig f k₂ (node x b s kids) p = tt
+
+-- so it is good below digit f of k₂, under a key that differs from k₂ there first
+pub past-good : {A : Type 0} (dig : ℕ → ℕ → ℕ) (D w f k k₂ : ℕ) (q : ℕ → ℕ) (t : Tree A) → Good dig D w q t → Past dig f k₂ t → Agree dig f (dig k) k₂
+    → Good dig D (f + 1) (upd (dig k) f (dig k₂ f)) t
+unfolding Good
+past-good dig D w f k k₂ q empty g p a = tt
+past-good dig D w f k k₂ q (leaf x k′ v) g p a = rw p (agree-down dig f (dig k₂ f) k k₂ a refl)
+past-good dig D w f k k₂ q (node x b s kids) g p a = (
+  omega arith,
+  g .1,
+  λ i h. sym (p .1 i (omega (arith, p .0))) ∙ agree-down dig f (dig k₂ f) k k₂ a refl i h,
+  g .3,
+  g .4,
+)
+
+-- ---- the tree
 module _ {A : Type 0} (dig : ℕ → ℕ → ℕ) (dl : (k i : ℕ) → dig k i < 16) (y f z k : ℕ) (v : A) (c : ℕ) (l : c < 16) (n : dig k f ≢ c) (t : Tree A) where
-  -- the shape of its children
+  -- a child is the new leaf, the old target, or nothing
   kids-case : (P : ℕ → Tree A → Type 0) (d : ℕ) → P (dig k f) (leaf z k v) → P c t → (d ≢ dig k f → d ≢ c → P d empty) → P d (splitKids (dig k f) z k v c t d)
   unfolding splitKids
   kids-case P d new old off =
@@ -46,7 +66,7 @@ module _ {A : Type 0} (dig : ℕ → ℕ → ℕ) (dl : (k i : ℕ) → dig k i 
     g,
     λ d h.
         kids-case (λ d u. Good dig D (f + 1) (upd (dig k) f d) u) d
-        (λ i j. upd-case (λ i x. dig k i ≡ x) (dig k) f (dig k f) i refl (λ p. refl))
+        (agree-down dig f (dig k f) k k (λ i j. refl) refl)
         old (λ p q. tt),
     record {
       c = dig k f;
@@ -67,14 +87,26 @@ module _ {A : Type 0} (dig : ℕ → ℕ → ℕ) (dl : (k i : ℕ) → dig k i 
   unfolding find splitTree
   split-old D k′ ne g =
       kids-case (λ d u. dig k′ f ≡ d → find dig k′ u ≡ find dig k′ t) (dig k′ f)
-      (λ e. rw (ne-eqb k′ k ne) (sym (lost (λ h. n (sym e ∙ h)))))
+      (λ e. rw (ne-eqb k′ k ne) (sym (off (λ h. n (sym e ∙ h)))))
       (λ e. refl)
-      (λ p q e. sym (lost q))
+      (λ p q e. sym (off q))
       refl
     where
-      go : (o : Option A) → find dig k′ t ≡ o → dig k′ f ≢ c → find dig k′ t ≡ none
-      go none e h = e
-      go (some v′) e h = absurd (h (found-agrees dig D (f + 1) (upd (dig k) f c) t k′ v′ dl g e f (omega arith) ∙ upd-at (dig k) f c))
+      off : dig k′ f ≢ c → find dig k′ t ≡ none
+      off h = not-found dig D dl (f + 1) (upd (dig k) f c) t k′ f g (omega arith) (λ e. h (e ∙ upd-at (dig k) f c))
 
-      lost : dig k′ f ≢ c → find dig k′ t ≡ none
-      lost h = go (find dig k′ t) refl h
+  pub split-mult : (x : ℕ) → mult x (splitTree dig y f z k v c t) ≡ mult x t + (one (eqb x z) + one (eqb x y))
+  unfolding mult splitTree splitKids
+  split-mult x =
+      let e₀ : ℕ → Tree A = λ i. empty in
+      let e₁ : ℕ → Tree A = upd e₀ c t in
+      let e₂ : ℕ → Tree A = upd e₁ (dig k f) (leaf z k v) in
+      omega (
+        arith,
+        sum-upd 16 (λ i. mult x (e₂ i)) (λ i. mult x (e₁ i)) (dig k f) (dl k f) (λ i h. ap (mult x) (upd-off e₁ (dig k f) (leaf z k v) i h)),
+        sum-upd 16 (λ i. mult x (e₁ i)) (λ i. mult x (e₀ i)) c l (λ i h. ap (mult x) (upd-off e₀ c t i h)),
+        sum-zero 16 (λ i. mult x (e₀ i)) (λ i h. refl),
+        ap (mult x) (upd-at e₁ (dig k f) (leaf z k v)),
+        ap (mult x) (upd-off e₀ c t (dig k f) n),
+        ap (mult x) (upd-at e₀ c t),
+      )

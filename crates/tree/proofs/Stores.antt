@@ -1,16 +1,15 @@
--- Stores touch their words and no others.
+-- Stores touch their words and no others; a block leaves its values; the parts that a cut leaves.
 -- Assumes nothing.
-use mathlib.Core.Path.{_≡_, refl, sym, ap, _∙_}
-use mathlib.Core.Logic.{_≢_, _⊎_, inl, inr}
+use mathlib.Core.Path.{_≡_, refl, ap, _∙_}
+use mathlib.Core.Logic.{_≢_}
 use Prim.Native.Nat.{ℕ, zero, suc, _+_, _≤_, _<_}
 use mathlib.Core.List.{List, [], _∷_, _++_}
 use native.Mathlib.Omega.{arith}
 use native.Mathlib.Nat.{add-zero}
-use native.Mathlib.Numerals.{add-one}
-use lib.ListN.{length, getD}
+use lib.ListN.{length, getD, take}
 use Rattle.tree.specs.Tree.{upd}
 use Rattle.tree.specs.Shape.{Mem}
-use Rattle.tree.specs.Stores.{Store, run, block, Part, done, made, lost}
+use Rattle.tree.specs.Stores.{Store, run, block, tab, Part, done, made, lost}
 use Rattle.tree.proofs.Basics.{upd-at, upd-off}
 
 -- every store's word has P
@@ -61,6 +60,35 @@ block-at a (v ∷ vs) m (suc i) h =
     let e : a + suc i ≡ a + 1 + i = omega arith in
     rw e (block-at (a + 1) vs (upd m a v) i (omega arith))
 
+-- f 0 to f (n - 1), by place
+pub length-tab : (n : ℕ) (f : ℕ → ℕ) → length (tab n f) ≡ n
+unfolding tab
+length-tab zero f = refl
+length-tab (suc n) f = ap suc (length-tab n (λ i. f (suc i)))
+
+pub tab-at : (n : ℕ) (f : ℕ → ℕ) (i : ℕ) → i < n → getD (tab n f) i 0 ≡ f i
+unfolding tab
+tab-at zero f i h = absurd (omega arith)
+tab-at (suc n) f zero h = refl
+tab-at (suc n) f (suc i) h = tab-at n (λ i. f (suc i)) i (omega arith)
+
+-- ---- parts
 pub part-all : (σ : List Store) → Part σ σ
 part-all [] = done
 part-all (s ∷ σ) = made (part-all σ)
+
+pub part-none : (σ : List Store) → Part σ []
+part-none [] = done
+part-none (s ∷ σ) = lost (part-none σ)
+
+-- a prefix is a part
+pub part-take : (n : ℕ) (σ : List Store) → Part σ (take n σ)
+part-take zero σ = part-none σ
+part-take (suc n) [] = done
+part-take (suc n) (s ∷ σ) = made (part-take n σ)
+
+-- a part of two lists is a part of each
+pub part-append : (σ ρ τ : List Store) → Part (σ ++ ρ) τ → (τ₁ : List Store) × (τ₂ : List Store) × Part σ τ₁ × Part ρ τ₂ × (τ ≡ τ₁ ++ τ₂)
+part-append [] ρ τ p = ([], τ, done, p, refl)
+part-append (s ∷ σ) ρ τ (made {τ = τ′} p) = let (a, b, x, y, e) = part-append σ ρ τ′ p in (s ∷ a, b, made x, y, ap (s ∷_) e)
+part-append (s ∷ σ) ρ τ (lost p) = let (a, b, x, y, e) = part-append σ ρ τ p in (a, b, lost x, y, e)

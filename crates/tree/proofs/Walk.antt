@@ -1,15 +1,11 @@
 -- The walk on the pool is the walk on the tree, and its leaf decides.
 -- Assumes nothing.
-use mathlib.Core.Path.{_≡_, refl, sym, ap, _∙_}
-use mathlib.Core.Option.{Option, none, some}
+use mathlib.Core.Path.{_≡_, refl}
 use Prim.Native.Nat.{ℕ, zero, suc, _+_, _≤_, _<_}
-use mathlib.Core.Bool.{Bool, true, false}
 use native.Mathlib.Omega.{arith}
-use lib.Dec.{ltb, eqb}
 use borrow.Author.Tests.{le-ltb}
-use Rattle.digits.specs.Choice.{pick}
 use Rattle.tree.specs.Tree.{Tree, empty, leaf, node, upd, find, Good}
-use Rattle.tree.specs.Shape.{View, none-there, leaf-there, node-there, bad, Mem, Shape, Head, Holds, End, at-none, at-leaf, damage, walk, endOf, answer}
+use Rattle.tree.specs.Shape.{Mem, Shape, Holds, walk, endOf, answer}
 
 module _ (dig : ℕ → ℕ → ℕ) {A : Type 0} where
   pub answer-find : (t : Tree A) (k : ℕ) → answer k (endOf dig k t) ≡ find dig k t

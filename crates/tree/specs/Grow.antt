@@ -1,8 +1,8 @@
 -- The tree that a pool is read as, at most n nodes deep. What is damaged is read as nothing.
 -- Assumes nothing.
-use Prim.Native.Nat.{ℕ, zero, suc, _+_}
+use Prim.Native.Nat.{ℕ, zero, suc}
 use Rattle.tree.specs.Tree.{Tree, empty, leaf, node}
-use Rattle.tree.specs.Shape.{View, none-there, leaf-there, node-there, bad, Mem, Shape}
+use Rattle.tree.specs.Shape.{none-there, leaf-there, node-there, bad, Mem, Shape}
 use Rattle.tree.specs.Near.{low}
 
 module _ {A : Type 0} where

@@ -1,10 +1,9 @@
 -- The plain table as a list of entries, keys rising; and the list that a tree is read as.
 -- Assumes nothing.
 use Prim.Native.Nat.{ℕ, zero, suc, _<_}
-use mathlib.Core.Bool.{Bool, true, false}
 use mathlib.Core.Option.{Option, none, some}
 use mathlib.Core.List.{List, [], _∷_, _++_}
-use lib.Dec.{eqb, ltb}
+use lib.Dec.{eqb}
 use Rattle.digits.specs.Choice.{pick}
 use Rattle.tree.specs.Tree.{Tree, empty, leaf, node}
 
@@ -21,14 +20,17 @@ module _ {A : Type 0} where
   Rising [] = Unit {0}
   Rising (e ∷ l) = Every (λ e′. e .key < e′ .key) l × Rising l
 
+  -- the value that a list has for a key
   unfoldable pub look : ℕ → List (Entry A) → Option A
   look k [] = none
   look k (e ∷ l) = pick (eqb k (e .key)) (some (e .value)) (look k l)
 
+  -- f 0 to f (n - 1), one after the other
   unfoldable pub cat : ℕ → (ℕ → List (Entry A)) → List (Entry A)
   cat zero f = []
   cat (suc n) f = cat n f ++ f n
 
+  -- a tree's leaves, lowest digit first
   unfoldable pub entries : Tree A → List (Entry A)
   entries empty = []
   entries (leaf x k v) = record { key = k; value = v } ∷ []

@@ -1,8 +1,8 @@
 -- What a pool layout has to offer, and what it means that a reference holds a tree. One definition for all node kinds, leaf sizes and key widths.
 -- Assumes nothing.
 use mathlib.Core.Path.{_≡_}
-use Prim.Native.Nat.{ℕ, zero, suc, _+_, _-_, _≤_, _<_}
-use mathlib.Core.Bool.{Bool, true, false}
+use Prim.Native.Nat.{ℕ, zero, suc, _+_, _≤_, _<_}
+use mathlib.Core.Bool.{true, false}
 use mathlib.Core.Option.{Option, none, some}
 use lib.Dec.{ltb, eqb}
 use Rattle.digits.specs.Choice.{pick}
@@ -23,8 +23,11 @@ abbrev pub SameIn : (ℕ → ℕ) → Mem → Mem → ℕ → Type 0
 SameIn own m m′ x = (i : ℕ) → own i ≡ x → m′ i ≡ m i
 
 pub record Shape (A : Type 0) : Type 0 where
+  -- the slot that a word belongs to
   pub own : ℕ → ℕ
+  -- what stands behind a reference
   pub view : Mem → ℕ → View A
+  -- the reference to the child of a node's slot at a digit
   pub kid : Mem → ℕ → ℕ → ℕ
   -- the stored digits of a node of depth h and branch place b below which keys begin as s
   pub stored : ℕ → ℕ → ℕ → ℕ
@@ -43,13 +46,14 @@ module _ {A : Type 0} (S : Shape A) where
   Holds m w r (leaf x k v) = S .view m r ≡ leaf-there x k v
   Holds m w r (node x b s kids) = Head m w r x b s × ((c : ℕ) → c < 16 → Holds m (b + 1) (S .kid m x c) (kids c))
 
--- how a walk ends: nothing there, a leaf (slot, key, value), damage
+-- How a walk ends: nothing there, a leaf (slot, key, value), damage.
 pub data End (A : Type 0) : Type 0 where
   at-none : End A
   at-leaf : ℕ → ℕ → A → End A
   damage : End A
 
 module _ {A : Type 0} (S : Shape A) (dig : ℕ → ℕ → ℕ) where
+  -- k's walk from the reference r met at walk depth w, at most n nodes long
   unfoldable pub walk : ℕ → Mem → ℕ → ℕ → ℕ → End A
   walk zero m w r k = damage
   walk (suc n) m w r k =

@@ -1,7 +1,7 @@
 -- Stores, in lists, and what a cut can leave of them.
 -- Assumes nothing.
-use Prim.Native.Nat.{ℕ, zero, suc, _+_, _<_}
-use mathlib.Core.List.{List, [], _∷_, _++_}
+use Prim.Native.Nat.{ℕ, zero, suc, _+_}
+use mathlib.Core.List.{List, [], _∷_}
 use Rattle.tree.specs.Tree.{upd}
 use Rattle.tree.specs.Shape.{Mem}
 
@@ -9,6 +9,7 @@ pub record Store : Type 0 where
   pub word : ℕ
   pub value : ℕ
 
+-- the memory after all of them, in their order
 unfoldable pub run : List Store → Mem → Mem
 run [] m = m
 run (s ∷ σ) m = run σ (upd m (s .word) (s .value))

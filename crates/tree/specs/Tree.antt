@@ -1,11 +1,11 @@
--- The abstract tree: what a sound pool holds, without references, headers' depths or free words.
+-- The tree that a sound pool holds: slots, keys, values and branch places, without references, the depths in headers, or free words.
 -- Assumes nothing.
 use mathlib.Core.Path.{_≡_}
 use mathlib.Core.Logic.{_≢_}
 use Prim.Native.Nat.{ℕ, zero, suc, _+_, _≤_, _<_}
 use mathlib.Core.Bool.{Bool, true, false}
 use mathlib.Core.Option.{Option, none, some}
-use mathlib.Core.List.{List, [], _∷_, _++_}
+use mathlib.Core.List.{List, [], _∷_}
 use lib.Dec.{eqb}
 use Rattle.digits.specs.Choice.{pick}
 
@@ -13,6 +13,7 @@ use Rattle.digits.specs.Choice.{pick}
 abbrev pub upd {ℓ} : {B : Type ℓ} → (ℕ → B) → ℕ → B → ℕ → B
 upd f c a i = pick (eqb i c) a (f i)
 
+-- f 0 + .. + f (n - 1)
 abbrev pub sum : ℕ → (ℕ → ℕ) → ℕ
 sum zero f = 0
 sum (suc n) f = sum n f + f n
@@ -20,6 +21,11 @@ sum (suc n) f = sum n f + f n
 abbrev pub one : Bool → ℕ
 one true = 1
 one false = 0
+
+-- how often x stands in a list
+unfoldable pub occurs : ℕ → List ℕ → ℕ
+occurs x [] = 0
+occurs x (y ∷ l) = one (eqb x y) + occurs x l
 
 -- A slot is named by its byte number in the map. A leaf: slot, key, value. A node: slot, branch place b, a key whose first b digits are those
 -- of every key below, and the child at each digit.
@@ -40,6 +46,17 @@ module _ {A : Type 0} where
   mult x (leaf y k v) = one (eqb x y)
   mult x (node y b s kids) = one (eqb x y) + sum 16 (λ c. mult x (kids c))
 
+  -- how many leaves and how many nodes are reached
+  unfoldable pub leaves : Tree A → ℕ
+  leaves empty = 0
+  leaves (leaf x k v) = 1
+  leaves (node x b s kids) = sum 16 (λ c. leaves (kids c))
+
+  unfoldable pub nodes : Tree A → ℕ
+  nodes empty = 0
+  nodes (leaf x k v) = 0
+  nodes (node x b s kids) = 1 + sum 16 (λ c. nodes (kids c))
+
   -- a place in a tree is the list of the digits that lead to it
   unfoldable pub On : List ℕ → Tree A → Type 0
   On [] t = Unit {0}
@@ -47,19 +64,21 @@ module _ {A : Type 0} where
   On (c ∷ π) (leaf x k v) = ⊥
   On (c ∷ π) (node x b s kids) = (c < 16) × On π (kids c)
 
+  -- what stands at a place
   unfoldable pub sub : List ℕ → Tree A → Tree A
   sub [] t = t
   sub (c ∷ π) empty = empty
   sub (c ∷ π) (leaf x k v) = empty
   sub (c ∷ π) (node x b s kids) = sub π (kids c)
 
+  -- the tree with u at a place
   unfoldable pub plug : List ℕ → Tree A → Tree A → Tree A
   plug [] t u = u
   plug (c ∷ π) empty u = empty
   plug (c ∷ π) (leaf x k v) u = empty
   plug (c ∷ π) (node x b s kids) u = node x b s (upd kids c (plug π (kids c) u))
 
-  -- walk depth at a place, the tree being met at w
+  -- the walk depth at a place, the tree being met at w
   unfoldable pub dep : List ℕ → ℕ → Tree A → ℕ
   dep [] w t = w
   dep (c ∷ π) w empty = w
@@ -82,13 +101,14 @@ module _ (dig : ℕ → ℕ → ℕ) where
   abbrev pub Agree : ℕ → (ℕ → ℕ) → ℕ → Type 0
   Agree w q k = (i : ℕ) → i < w → dig k i ≡ q i
 
-  -- the digits that lead to a place, as a digit function
+  -- the digits that lead to a place, the tree's own being q
   unfoldable pub pre : {A : Type 0} → List ℕ → (ℕ → ℕ) → Tree A → ℕ → ℕ
   pre [] q t = q
   pre (c ∷ π) q empty = q
   pre (c ∷ π) q (leaf x k v) = q
   pre (c ∷ π) q (node x b s kids) = pre π (upd (dig s) b c) (kids c)
 
+  -- the value that the tree has for k
   unfoldable pub find : {A : Type 0} → ℕ → Tree A → Option A
   find k empty = none
   find k (leaf x k′ v) = pick (eqb k k′) (some v) none
