@@ -24,7 +24,12 @@ pub extern "C" fn wort_format(pool: &mut [u64], map: &mut [u8], n: u64) -> u64
 }
 
 #[no_mangle]
-pub extern "C" fn wort_open(pool: &mut [u64], map: &mut [u8], keys: &mut u64, headers: &mut u64) -> u64
+pub extern "C" fn wort_open(
+    pool: &mut [u64],
+    map: &mut [u8],
+    keys: &mut u64,
+    headers: &mut u64,
+) -> u64
     ensures { λ r. ⌜ opening r (now (keys .exit)) (now (headers .exit)) (now (pool .exit)) (now (map .exit)) ≡ openingOf (now (pool .entry)) (now (map .entry)) ⌝ }
 {
     let o = opening::open(pool, map);
@@ -79,7 +84,13 @@ fn flag(b: bool) -> u64
 }
 
 #[no_mangle]
-pub extern "C" fn wort_put(pool: &mut [u64], map: &mut [u8], key: u64, value: u64, stores: &mut u64) -> u64
+pub extern "C" fn wort_put(
+    pool: &mut [u64],
+    map: &mut [u8],
+    key: u64,
+    value: u64,
+    stores: &mut u64,
+) -> u64
     ensures { λ r. ⌜ stored r (now (stores .exit)) (now (pool .exit)) (now (map .exit)) ≡ storedOf (putOf (now (pool .entry)) (now (map .entry)) key value) ⌝ }
 {
     let d = writing::put(pool, map, key, value);
@@ -97,7 +108,13 @@ pub extern "C" fn wort_delete(pool: &mut [u64], map: &mut [u8], key: u64, stores
 }
 
 #[no_mangle]
-pub extern "C" fn wort_plan_put(pool: &[u64], map: &[u8], key: u64, value: u64, plan: &mut [u64; 46]) -> u64
+pub extern "C" fn wort_plan_put(
+    pool: &[u64],
+    map: &[u8],
+    key: u64,
+    value: u64,
+    plan: &mut [u64; 46],
+) -> u64
     ensures { λ r. ⌜ planned r (now (plan .exit)) ≡ plannedIn (putPlan (now (pool .entry)) (now (map .entry)) key value) ⌝ }
 {
     let p = writing::plan_put(pool, map, key, value);

@@ -71,8 +71,8 @@ returns-2 c =
 -- what is known of the node where its header is accepted
 node : (c : tie.After-b Inv-loop μ-loop)
     → let a = c .before .before .before .before .before .before .before .before .before .before .args in
-      let l = c .before .before .before .before .before .before .before .before .loop in
-      Accepted (a .pool .now) (a .n) (l .depth) (l .at) (c .before .before .before .before .before .s .given .0 .0) (c .b .given .0 .0)
+    let l = c .before .before .before .before .before .before .before .before .loop in
+    Accepted (a .pool .now) (a .n) (l .depth) (l .at) (c .before .before .before .before .before .s .given .0 .0) (c .b .given .0 .0)
 node c =
     let t = c .before .before in
     let r = t .before .before .before .before .before .reference .ensures in

@@ -1,0 +1,86 @@
+-- The cases that document 01 marks (p), as one table of tests over the definitions.
+-- Assumes nothing.
+use mathlib.Core.Bool.{Bool, true, false}
+use mathlib.Core.List.{List, [], _∷_}
+use Prim.Native.Nat.{ℕ}
+use lib.Dec.{eqb}
+use lib.ListN.{replicate}
+use Rattle.digits.specs.Choice.{pick}
+use Rattle.digits.specs.Digits.{digitOf, firstDiff}
+use Rattle.plan.specs.Plans.{made}
+use Rattle.pool.specs.Sizes.{sizeOf}
+use Rattle.pool.specs.Places.{wordAt}
+use Rattle.pool.specs.Refs.{refOf}
+use Rattle.pool.specs.declared.Size.{Size}
+use Rattle.pool.specs.declared.Size.the-variants.{Holds, Wrong}
+use Rattle.pool.specs.declared.Ref.{Ref}
+use Rattle.pool.specs.declared.Ref.the-variants.{Empty, Leaf, Node, Bad}
+use Rattle.writing.specs.Calls.{Left, putOf, formatOf}
+
+abbrev pub both : Bool → Bool → Bool
+both a b = pick a b false
+
+abbrev pub every : List Bool → Bool
+every [] = true
+every (t ∷ ts) = both t (every ts)
+
+abbrev isNode : ℕ → Ref → Bool
+isNode j Empty = false
+isNode j (Leaf i) = false
+isNode j (Node i) = eqb i j
+isNode j Bad = false
+
+abbrev isDamage : Ref → Bool
+isDamage Empty = false
+isDamage (Leaf i) = false
+isDamage (Node i) = false
+isDamage Bad = true
+
+-- the number that a size gives: 0, or 1 for a wrong one
+abbrev sizeNumber : Size → ℕ
+sizeNumber (Holds n) = 0
+sizeNumber Wrong = 1
+
+-- a fresh pool of n leaves in so many words, and the same after puts
+abbrev fresh : ℕ → ℕ → ℕ → Left
+fresh n words bytes = record {
+  done = record { number = 0; stores = 0 };
+  pool = formatOf (replicate words 0) (replicate bytes 0) n .pool;
+  map = formatOf (replicate words 0) (replicate bytes 0) n .map;
+}
+
+abbrev putting : ℕ → ℕ → Left → Left
+putting k v l = putOf (l .pool) (l .map) k v
+
+-- the header of the only node of a pool that holds just two keys: N = 2, so word 6
+abbrev rootHeader : ℕ → ℕ → ℕ
+rootHeader a b = wordAt (putting b 2 (putting a 1 (fresh 2 23 3)) .pool) 6
+
+unfoldable pub cases : List Bool
+cases =
+    -- "Digit 0 of 0x123456789abcdef0 is 1, digit 15 is 0."
+    eqb (digitOf 0x123456789abcdef0 0) 1
+    ∷ eqb (digitOf 0x123456789abcdef0 15) 0
+    -- "First differing digit: 0 and all ones, 0; 0 and 1, 15; 7 and 7, 16."
+    ∷ eqb (firstDiff 0 0xffffffffffffffff) 0
+    ∷ eqb (firstDiff 0 1) 15
+    ∷ eqb (firstDiff 7 7) 16
+    -- "Keys 0x123456789abcdef0 and ..ef1 only: header 0x000f123456789abc."
+    ∷ eqb (rootHeader 0x123456789abcdef0 0x123456789abcdef1) 0x000f123456789abc
+    -- "Keys 0x1234567800000000 and 0x1234567900000000 only: header 0x0007123456700000."
+    ∷ eqb (rootHeader 0x1234567800000000 0x1234567900000000) 0x0007123456700000
+    -- "Keys 0 and all ones only: header 0."
+    ∷ eqb (rootHeader 0 0xffffffffffffffff) 0
+    -- "N = 1: 4 words accepted, 5 refused with 1. N = 0 and 1025: 1."
+    ∷ eqb (sizeNumber (sizeOf 4 1)) 0
+    ∷ eqb (sizeNumber (sizeOf 5 1)) 1
+    ∷ eqb (sizeNumber (sizeOf 4 0)) 1
+    ∷ eqb (sizeNumber (sizeOf 19460 1025)) 1
+    -- "N = 2: reference 1025 is node 0; 1026 and 3 are damage."
+    ∷ isNode 0 (refOf 2 1025)
+    ∷ isDamage (refOf 2 1026)
+    ∷ isDamage (refOf 2 3)
+    -- "N = 1, one key held: put of that key 0, of another 4."
+    ∷ eqb (putting 7 2 (putting 7 1 (fresh 1 4 1)) .done .number) 0
+    ∷ eqb (putting 8 2 (putting 7 1 (fresh 1 4 1)) .done .number) 4
+    ∷ []
