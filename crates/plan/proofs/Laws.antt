@@ -22,7 +22,7 @@ use Rattle.plan.specs.declared.Plan.{Plan}
 use Rattle.plan.specs.declared.Effect.{Effect}
 use Rattle.plan.specs.declared.Effect.the-variants.{Nothing, TakesLeaf, TakesBoth, FreesLeaf, FreesBoth}
 use Rattle.plan.specs.Plans.{made, planOf, After, after, storeOf, storesOf, stepOf, finishOf, Ran, ran, stepsFrom, runOf}
-use Rattle.plan.specs.Effects.{takes, frees, has, byteOf, Below, Inside}
+use Rattle.plan.specs.Effects.{bare, takes, frees, has, byteOf, Below, Inside}
 
 -- ---- the stores of a list
 pub made-append : (σ τ : List Store) (l : List ℕ) → made (σ ++ τ) l ≡ made τ (made σ l)
@@ -127,6 +127,16 @@ unfolding stepsFrom
 steps-none p n i l h =
     let e : n - i ≡ 0 = omega arith in
     rw e
+
+-- they do not see the effect
+pub steps-bare : (n : ℕ) (p : Plan) (i : ℕ) (l : List ℕ) → stepsFrom n (bare (p .words) (p .values) (p .count)) i l ≡ stepsFrom n p i l
+unfolding stepsFrom stepOf
+steps-bare zero p i l = refl
+steps-bare (suc n) p i l = go (steps-bare n p (i + 1) (stepOf p i l .left)) (eqb (stepOf p i l .number) 0)
+  where
+    go : {a b : Ran} → a ≡ b → (t : Bool) → _≡_ {A = Ran} (elim t [ true ↦ a | false ↦ ran i l ]) (elim t [ true ↦ b | false ↦ ran i l ])
+    go e true = e
+    go e false = refl
 
 -- ---- a step and a run of a plan of at most 21 stores
 module _ (σ : List Store) (e : Effect) (few : length σ ≤ 21) where
