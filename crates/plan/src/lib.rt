@@ -1,8 +1,8 @@
 // Plans: at most 21 stores in order, each made by one step, and what they do to the map.
 ghost use mathlib.Core.Path.{_≡_};
 ghost use mathlib.Core.List.{[]};
-ghost use Prim.Native.Nat.{ℕ, _+_, _<_, _≤_};
 ghost use lib.ListN.{length};
+ghost use Rattle.plan.specs.Effects.{bare};
 ghost use Rattle.plan.specs.Plans.{planOf, refused, plannedOf, after, storeOf, storesOf, stepOf, finishOf, ran, runOf};
 
 // What a plan does to the map. Slots are named by their byte number in the map.
@@ -57,32 +57,45 @@ impl Planned {
     }
 }
 
-// One step makes one store.
-pub fn step(pool: &mut [u64], plan: Plan, at: usize) -> u64
-    ensures { λ r. ⌜ after r (now (pool .exit)) ≡ stepOf plan at (now (pool .entry)) ⌝ }
+// The single step: the store at one place of these words and values.
+fn step_in(pool: &mut [u64], words: &[usize], values: &[u64], count: usize, at: usize) -> u64
+    requires { ⌜ (length (now words) ≡ 21) × (length (now values) ≡ 21) ⌝ }
+    ensures { λ r. ⌜ after r (now (pool .exit)) ≡ stepOf (bare (now (words .entry)) (now (values .entry)) count) at (now (pool .entry)) ⌝ }
 {
-    let count = plan.count;
     if Plan::MOST < count {
         return 5;
     }
     if count <= at {
         return 5;
     }
-    let word = plan.words[at];
+    let word = words[at];
     if pool.len() <= word {
         return 5;
     }
-    pool[word] = plan.values[at];
+    pool[word] = values[at];
     0
+}
+
+// One step makes one store.
+pub fn step(pool: &mut [u64], plan: Plan, at: usize) -> u64
+    ensures { λ r. ⌜ after r (now (pool .exit)) ≡ stepOf plan at (now (pool .entry)) ⌝ }
+{
+    let words = plan.words;
+    let values = plan.values;
+    let count = plan.count;
+    step_in(pool, &words, &values, count, at)
 }
 
 // The first steps of a plan, at most so many, until one is refused; how many were made.
 pub fn run(pool: &mut [u64], plan: Plan, most: usize) -> usize
     ensures { λ r. ⌜ ran r (now (pool .exit)) ≡ runOf most plan (now (pool .entry)) ⌝ }
 {
+    let words = plan.words;
+    let values = plan.values;
+    let count = plan.count;
     let mut i: usize = 0;
     while i < most {
-        if step(pool, plan, i) != 0 {
+        if step_in(pool, &words, &values, count, i) != 0 {
             return i;
         }
         i += 1;

@@ -1,4 +1,4 @@
--- `run` makes the steps one by one: at each turn what is left to do equals the whole run. It rests on what `step` ensures and on
+-- `run` makes the steps one by one: at each turn what is left to do equals the whole run. It rests on what `step_in` ensures and on
 -- the laws of steps. Assumes nothing.
 use mathlib.Core.Path.{_≡_, refl, sym, _∙_}
 use Prim.Native.Nat.{_≤_, _-_}
@@ -7,29 +7,36 @@ use native.Mathlib.Omega.{arith}
 use borrow.Author.Needs.{needs}
 use lib.ListN.{length}
 use Rattle.plan.specs.Plans.{stepsFrom, runOf}
-use Rattle.plan.proofs.Laws.{steps-next, steps-end, steps-none}
+use Rattle.plan.specs.Effects.{bare}
+use Rattle.plan.proofs.Laws.{steps-next, steps-end, steps-none, steps-bare}
 use Rattle.plan.proofs.run.Statement.{statement}
 use Rattle.plan.proofs.run.Tie as tie
 
 abbrev Inv-loop : tie.InvT-loop
-Inv-loop pool₀ plan most i₀ pool i = (i ≤ most) × (length pool ≡ length pool₀) × (stepsFrom (most - i) plan i pool ≡ runOf most plan pool₀)
+Inv-loop pool₀ most words values count i₀ pool i = (i ≤ most) × (length pool ≡ length pool₀) × (stepsFrom (most - i) (bare words values count) i pool ≡ runOf most (bare words values count) pool₀)
 
 abbrev μ-loop : tie.MeasureT-loop
-μ-loop pool₀ plan most i₀ pool i = most - i
+μ-loop pool₀ most words values count i₀ pool i = most - i
 
 loop-holds : tie.Need-loop-holds Inv-loop μ-loop
 loop-holds c = (omega arith, refl, rw sub-zero)
 
-step-requires : tie.Need-step-requires Inv-loop μ-loop
-step-requires c κs = search needs
+slice-aggregate-step-in : tie.Need-slice-aggregate-step-in Inv-loop μ-loop
+slice-aggregate-step-in c = search needs
+
+slice-aggregate-step-in-2 : tie.Need-slice-aggregate-step-in-2 Inv-loop μ-loop
+slice-aggregate-step-in-2 c = search needs
+
+step-in-requires : tie.Need-step-in-requires Inv-loop μ-loop
+step-in-requires c κs = search needs
 
 same-length : tie.Need-same-length Inv-loop μ-loop
 same-length c = search needs
 
 returns : tie.Need-returns Inv-loop μ-loop
 returns c =
-    let l = c .before .before .before .before .before .before .loop in
-    sym (steps-end _ _ _ _ (omega arith) (c .if1 .taken) (c .before .before .before .step .ensures)) ∙ l .inv .2
+    let l = c .before .before .before .before .before .before .before .before .loop in
+    sym (steps-end _ _ _ _ (omega arith) (c .if1 .taken) (c .before .before .before .step-in .ensures)) ∙ l .inv .2 ∙ steps-bare _ _ _ _
 
 add-i : tie.Need-add-i Inv-loop μ-loop
 add-i c = search needs
@@ -39,14 +46,14 @@ loop-less c = search needs
 
 loop-again : tie.Need-loop-again Inv-loop μ-loop
 loop-again c =
-    let l = c .before .before .before .before .before .before .loop in
-    (omega arith, search needs, sym (steps-next _ _ _ _ (omega arith) (c .if1 .left) (c .before .before .before .step .ensures)) ∙ l .inv .2)
+    let l = c .before .before .before .before .before .before .before .before .loop in
+    (omega arith, search needs, sym (steps-next _ _ _ _ (omega arith) (c .if1 .left) (c .before .before .before .step-in .ensures)) ∙ l .inv .2)
 
 same-length-2 : tie.Need-same-length-2 Inv-loop μ-loop
 same-length-2 c = search needs
 
 returns-2 : tie.Need-returns-2 Inv-loop μ-loop
-returns-2 c = sym (steps-none _ _ _ _ (omega arith)) ∙ c .before .loop .inv .2
+returns-2 c = sym (steps-none _ _ _ _ (omega arith)) ∙ c .before .loop .inv .2 ∙ steps-bare _ _ _ _
 
 pub run-spec : {M : Type 1} → statement M
 run-spec =
@@ -55,7 +62,9 @@ run-spec =
     Inv-loop
     μ-loop
     loop-holds
-    step-requires
+    slice-aggregate-step-in
+    slice-aggregate-step-in-2
+    step-in-requires
     same-length
     returns
     add-i

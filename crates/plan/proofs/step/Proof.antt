@@ -1,59 +1,31 @@
--- `step` judges in the definition's order: the count, the step number, the word. Assumes nothing.
-use borrow.Author.Tests.{lt-ltb, le-ltb, le-leb, lt-leb}
+-- `step` is `step_in` of the plan's parts: a step does not see the effect. Assumes nothing.
 use borrow.Author.Needs.{needs}
 use Rattle.plan.specs.Plans.{stepOf}
 use Rattle.plan.proofs.step.Statement.{statement}
 use Rattle.plan.proofs.step.Tie as tie
 
-returns : tie.Need-returns
-unfolding stepOf
-returns c = simp (lt-ltb _ _ (c .if1 .taken))
+slice-aggregate-step-in : tie.Need-slice-aggregate-step-in
+slice-aggregate-step-in c = search needs
 
-returns-2 : tie.Need-returns-2
-unfolding stepOf
-returns-2 c = simp (le-ltb _ _ (c .before .if1 .left), le-leb _ _ (c .if2 .taken))
+slice-aggregate-step-in-2 : tie.Need-slice-aggregate-step-in-2
+slice-aggregate-step-in-2 c = search needs
 
-mul-word : tie.Need-mul-word
-mul-word c = search needs
-
-element-copy-out-word : tie.Need-element-copy-out-word
-element-copy-out-word c = search needs
-
-returns-3 : tie.Need-returns-3
-unfolding stepOf
-returns-3 c = simp (le-ltb _ _ (c .before .before .before .if1 .left), lt-leb _ _ (c .before .before .if2 .left), le-ltb _ _ (c .if3 .taken))
-
-mul-pool : tie.Need-mul-pool
-mul-pool c = search needs
-
-element-copy-out-pool : tie.Need-element-copy-out-pool
-element-copy-out-pool c = search needs
-
-mul-pool-2 : tie.Need-mul-pool-2
-mul-pool-2 c = search needs
-
-slice-write-pool : tie.Need-slice-write-pool
-slice-write-pool c = search needs
+step-in-requires : tie.Need-step-in-requires
+step-in-requires c κs = search needs
 
 same-length : tie.Need-same-length
 same-length c = search needs
 
-returns-4 : tie.Need-returns-4
+returns : tie.Need-returns
 unfolding stepOf
-returns-4 c = simp (le-ltb _ _ (c .before .before .before .before .if1 .left), lt-leb _ _ (c .before .before .before .if2 .left), lt-ltb _ _ (c .before .if3 .left))
+returns c = c .before .before .step-in .ensures
 
 pub step-spec : {M : Type 1} → statement M
 step-spec =
     tie.close
     (tie.spec
-    returns
-    returns-2
-    mul-word
-    element-copy-out-word
-    returns-3
-    mul-pool
-    element-copy-out-pool
-    mul-pool-2
-    slice-write-pool
+    slice-aggregate-step-in
+    slice-aggregate-step-in-2
+    step-in-requires
     same-length
-    returns-4)
+    returns)
