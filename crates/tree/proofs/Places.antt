@@ -84,20 +84,16 @@ module _ (dig : ℕ → ℕ → ℕ) {A : Type 0} where
       }
 
 -- a place is the root, or a child of a node
-pub data Spot {A : Type 0} (t : Tree A) (π : List ℕ) : Type 0 where
-  root : π ≡ [] → Spot t π
-  below : (ρ : List ℕ) (c x b s : ℕ) (kids : ℕ → Tree A) → π ≡ ρ ++ c ∷ [] → On ρ t → sub ρ t ≡ node x b s kids → c < 16 → Spot t π
-
-pub spot : {A : Type 0} (π : List ℕ) (t : Tree A) → On π t → Spot t π
+pub by-place : {A : Type 0} (P : List ℕ → Type 0) (t : Tree A) → P []
+    → ((ρ : List ℕ) (c x b s : ℕ) (kids : ℕ → Tree A) → On ρ t → sub ρ t ≡ node x b s kids → c < 16 → P (ρ ++ c ∷ []))
+    → (π : List ℕ) → On π t → P π
 unfolding On sub
-spot [] t o = root refl
-spot (c ∷ π) empty o = absurd o
-spot (c ∷ π) (leaf x k v) o = absurd o
-spot (c ∷ π) (node x b s kids) o = go (spot π (kids c) (o .1))
-  where
-    go : Spot (kids c) π → Spot (node x b s kids) (c ∷ π)
-    go (root e) = below [] c x b s kids (ap (c ∷_) e) tt refl (o .0)
-    go (below ρ d y b′ s′ kids′ e oρ at l) = below (c ∷ ρ) d y b′ s′ kids′ (ap (c ∷_) e) (o .0, oρ) at l
+by-place P t root child [] o = root
+by-place P empty root child (c ∷ π) o = absurd o
+by-place P (leaf x k v) root child (c ∷ π) o = absurd o
+by-place P (node x b s kids) root child (c ∷ π) o =
+    by-place (λ ρ. P (c ∷ ρ)) (kids c) (child [] c x b s kids tt refl (o .0))
+    (λ ρ d y b′ s′ kids′ oρ at l. child (c ∷ ρ) d y b′ s′ kids′ (o .0, oρ) at l) π (o .1)
 
 -- ---- digits
 -- from a child's digits to the node's

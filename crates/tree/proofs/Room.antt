@@ -16,7 +16,7 @@ module _ {A : Type 0} where
   Slots N (leaf x k v) = x < N
   Slots N (node x b s kids) = (N ≤ x) × (x + 1 < N + N) × ((c : ℕ) → c < 16 → Slots N (kids c))
 
-  -- other slots are not reached
+  -- no other slot is reached
   pub slots-out : (N : ℕ) (t : Tree A) → Slots N t → (x : ℕ) → N + N ≤ x + 1 → mult x t ≡ 0
   unfolding Slots mult
   slots-out N empty g x h = refl

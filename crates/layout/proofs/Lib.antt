@@ -1,0 +1,4 @@
+pub mod Base
+pub mod Changes
+pub mod Headers
+pub mod Puts
