@@ -2,3 +2,4 @@ pub mod Base
 pub mod Changes
 pub mod Headers
 pub mod Puts
+pub mod Drops

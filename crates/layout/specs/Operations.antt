@@ -45,3 +45,20 @@ pub record Puts (D N : ℕ) (m : Mem) (t : Tree ℕ) (k v : ℕ) (σ : List Stor
   pub found : find (digitIn D) k after ≡ some v
   pub others : (k′ : ℕ) → k′ ≢ k → find (digitIn D) k′ after ≡ find (digitIn D) k′ t
   pub slots : (x : ℕ) → mult x after ≡ mult x t + occurs x taken
+
+-- A delete of all that stands at the place π stores s and then ρ. After s, and whatever part of ρ is made, the pool holds a tree that has no key
+-- with the digits of the place and is otherwise like t; what stood there is not reached, and the slots `over` are not.
+pub record Drops (D N : ℕ) (m : Mem) (t : Tree ℕ) (π : List ℕ) (s : Store) (ρ : List Store) (over : List ℕ) : Type 0 where
+  pub after : Tree ℕ
+  pub whole : (τ : List Store) → Part ρ τ → Held D N (run (s ∷ τ) m) after
+  pub gone : (k : ℕ) → Agree (digitIn D) (dep π 0 t) (pre (digitIn D) π (λ i. 0) t) k → find (digitIn D) k after ≡ none
+  pub others : (k : ℕ) → find (digitIn D) k (sub π t) ≡ none → find (digitIn D) k after ≡ find (digitIn D) k t
+  pub slots : (x : ℕ) → mult x after + mult x (sub π t) + occurs x over ≡ mult x t
+
+-- The same of a single key: the slots `freed` are not reached any more.
+pub record Deletes (D N : ℕ) (m : Mem) (t : Tree ℕ) (k : ℕ) (s : Store) (ρ : List Store) (freed : List ℕ) : Type 0 where
+  pub after : Tree ℕ
+  pub whole : (τ : List Store) → Part ρ τ → Held D N (run (s ∷ τ) m) after
+  pub gone : find (digitIn D) k after ≡ none
+  pub others : (k′ : ℕ) → k′ ≢ k → find (digitIn D) k′ after ≡ find (digitIn D) k′ t
+  pub slots : (x : ℕ) → mult x after + occurs x freed ≡ mult x t
