@@ -1,11 +1,11 @@
 -- The layout of document 01 is lawful: what its references show, which slot a word belongs to, and that a slot's words decide what it shows.
 -- Assumes nothing.
 use mathlib.Core.Path.{_≡_, refl, sym, ap, _∙_, subst}
-use Prim.Native.Nat.{ℕ, zero, suc, _+_, _-_, _*_, _/_, _%_, _^_, _≤_, _<_}
+use Prim.Native.Nat.{ℕ, _+_, _-_, _*_, _%_, _^_, _≤_, _<_}
 use mathlib.Core.Bool.{Bool, true, false}
 use native.Mathlib.Omega.{arith}
 use lib.Dec.{eqb, ltb, leb}
-use borrow.Author.Tests.{ltb-true, ltb-false, leb-true, leb-false, eqb-true, eqb-false, lt-ltb, le-ltb, le-leb, lt-leb, eq-eqb, ne-eqb}
+use borrow.Author.Tests.{ltb-true, leb-false, eqb-true, eqb-false, lt-ltb, le-ltb, le-leb, lt-leb, ne-eqb}
 use Rattle.digits.specs.Choice.{pick}
 use Rattle.digits.specs.Headers.{depthOf, lengthOf}
 use Rattle.pool.specs.Places.{leafWord, nodeWord, childWord, leafRef, nodeRef}
@@ -13,7 +13,7 @@ use Rattle.pool.specs.Refs.{refOf}
 use Rattle.pool.specs.declared.Ref.{Ref}
 use Rattle.pool.specs.declared.Ref.the-variants.{Empty, Leaf, Node, Bad}
 use Rattle.tree.specs.Tree.{Tree, empty, leaf, node}
-use Rattle.tree.specs.Shape.{View, none-there, leaf-there, node-there, bad, Mem, SameIn, Shape, Holds}
+use Rattle.tree.specs.Shape.{View, none-there, leaf-there, node-there, bad, Mem, Holds}
 use Rattle.tree.proofs.Frame.{Shows, Lawful}
 use Rattle.tree.proofs.Room.{Slots}
 use Rattle.layout.specs.Layout.{own, headView, refView, base}

@@ -1,23 +1,28 @@
 -- A header rewritten, as a split, a delete and an opening do: the pool holds the same tree.
 -- Rests on the laws of the header word. Assumes nothing.
-use mathlib.Core.Path.{_≡_, refl, sym, ap, _∙_, subst}
-use Prim.Native.Nat.{ℕ, _+_, _-_, _*_, _%_, _^_, _≤_, _<_}
-use mathlib.Core.List.{List}
+use mathlib.Core.Logic.{_⊎_, inl, inr}
+use mathlib.Core.Path.{_≡_, sym, ap, _∙_, subst}
+use Prim.Native.Nat.{ℕ, _+_, _-_, _≤_, _<_}
+use mathlib.Core.List.{List, [], _∷_}
 use native.Mathlib.Omega.{arith}
 use lib.Dec.{eqb}
 use borrow.Author.Tests.{lt-ltb}
 use Rattle.digits.specs.Digits.{digitIn}
-use Rattle.digits.specs.Headers.{storedIn, headerIn, depthOf, lengthOf}
+use Rattle.digits.specs.Headers.{storedIn, headerIn}
 use Rattle.digits.proofs.Headers.{depth-of-header, length-of-header, digits-of-header, stored-cong}
 use Rattle.pool.specs.Places.{nodeWord, childWord}
-use Rattle.tree.specs.Tree.{Tree, node, upd, sum, one, mult, On, sub, plug, dep, pre, Agree, Good}
-use Rattle.tree.specs.Shape.{node-there, Mem, Shape, Head, Holds}
+use Rattle.tree.specs.Tree.{Tree, node, upd, sum, one, mult, sub, dep, Stands, Agree, Good}
+use Rattle.tree.specs.Shape.{node-there, Mem, Holds}
+use Rattle.tree.specs.Stores.{Store, run, Part}
 use Rattle.tree.proofs.Basics.{upd-at, upd-off, one-at, sum-has}
-use Rattle.tree.proofs.Places.{plug-sub, sub-mult, good-sub}
+use Rattle.tree.proofs.Places.{plug-sub, sub-mult}
 use Rattle.tree.proofs.Frame.{rehead}
+use Rattle.tree.proofs.Stores.{part-one}
 use Rattle.layout.specs.Layout.{own, headView, base, Held}
-use Rattle.layout.proofs.Base.{SeesNode, sees-node, node-seen, own-slot, base-lawful}
-use Rattle.layout.proofs.Changes.{held, node-slot, amended}
+use Rattle.layout.specs.Operations.{headerStore}
+use Rattle.layout.proofs.Base.{sees-node, node-seen, own-slot, base-lawful}
+use Rattle.layout.proofs.Held.{held, good-at, node-slot}
+use Rattle.layout.proofs.Changes.{amended}
 
 -- a header shows what was packed
 pub header-view : (D x h b s : ℕ) → D ≤ 256 → h ≤ b → b < D → headView D x (headerIn D h (b - h) s) ≡ node-there x h b (storedIn D 12 h (b - h) s)
@@ -65,30 +70,38 @@ module _ (D N : ℕ) (d : D ≤ 256) where
       omega (arith, apart c o)))
 
   -- the node at a place of a held tree; s′ is any key that begins as those below it
-  module _ (m : Mem) (t : Tree ℕ) (H : Held D N m t) (π : List ℕ) (x b s : ℕ) (kids : ℕ → Tree ℕ) (h s′ : ℕ) (on : On π t) (here : sub π t ≡ node x b s kids)
-      (high : h ≤ b) (agree : Agree (digitIn D) b (digitIn D s) s′) where
-    -- a slot is counted here once, and outside not at all
+  module _ (m : Mem) (t : Tree ℕ) (H : Held D N m t) (π : List ℕ) (x b s : ℕ) (kids : ℕ → Tree ℕ) (p : Stands π (node x b s kids) t)
+      (h s′ : ℕ) (high : h ≤ b) (agree : Agree (digitIn D) b (digitIn D s) s′) where
     count : (y : ℕ) → mult y (sub π t) ≡ one (eqb y x) + sum 16 (λ c. mult y (kids c))
     unfolding mult
-    count y = ap (mult y) here
+    count y = ap (mult y) (p .is)
 
     branch : b < D
     unfolding Good
-    branch = (subst (Good (digitIn D) D (dep π 0 t) (pre (digitIn D) π (λ i. 0) t)) here (good-sub (digitIn D) D π 0 (λ i. 0) t on (H .good))) .1
+    branch = (good-at D N m t H π (node x b s kids) p) .1
 
     pub header-at : (w r : ℕ) → w ≤ h → Holds (base D N) m (dep π 0 t) r (sub π t)
         → Holds (base D N) (upd m (nodeWord N (x - N)) (headerIn D h (b - h) s′)) w r (sub π t)
     header-at w r low g =
-        rw here
-        (header-holds m (dep π 0 t) w r x b s kids h s′ (rw here at g)
-        (λ c o. omega (arith, count x, one-at x, H .once x, sub-mult π t x on, sum-has 16 (λ c. mult x (kids c)) c o)) low high branch agree)
+        rw (p .is)
+        (header-holds m (dep π 0 t) w r x b s kids h s′ (rw (p .is) at g)
+        (λ c o. omega (arith, count x, one-at x, H .once x, sub-mult π t x (p .on), sum-has 16 (λ c. mult x (kids c)) c o)) low high branch agree)
 
     pub reheaded : dep π 0 t ≤ h → Held D N (upd m (nodeWord N (x - N)) (headerIn D h (b - h) s′)) t
     reheaded low =
         let i : ℕ = nodeWord N (x - N) in
         let v : ℕ = headerIn D h (b - h) s′ in
-        let own-i : own N i ≡ x = own-slot N x i ((node-slot D N m t H π x b s kids on here) .0) (omega arith) (omega arith) in
+        let own-i : own N i ≡ x = own-slot N x i ((node-slot D N m t H π x b s kids p) .0) (omega arith) (omega arith) in
         held D N (upd m i v) t
-        (subst (Holds (base D N) (upd m i v) 0 (upd m i v 1)) (plug-sub π t on)
-        (amended D N m t H π on i v (sub π t) (rw own-i (omega (arith, count x, one-at x))) (λ r g. header-at (dep π 0 t) r low g)))
+        (subst (Holds (base D N) (upd m i v) 0 (upd m i v 1)) (plug-sub π t (p .on))
+        (amended D N m t H π (p .on) i v (sub π t) (rw own-i (omega (arith, count x, one-at x))) (λ r g. header-at (dep π 0 t) r low g)))
         (H .good)
+
+    -- as a list of one store, of which a cut leaves all or nothing
+    pub header-kept : dep π 0 t ≤ h → (τ : List Store) → Part (headerStore D N (x - N) h b s′ ∷ []) τ → Held D N (run τ m) t
+    unfolding run
+    header-kept low τ part = go (part-one (headerStore D N (x - N) h b s′) τ part)
+      where
+        go : (τ ≡ []) ⊎ (τ ≡ headerStore D N (x - N) h b s′ ∷ []) → Held D N (run τ m) t
+        go (inl e) = rw e H
+        go (inr e) = rw e (reheaded low)

@@ -1,14 +1,12 @@
 -- What each operation stores, and what its stores do to the tree that a pool holds, whichever of them a cut leaves.
 -- Assumes nothing.
-use mathlib.Core.Path.{_≡_}
-use mathlib.Core.Logic.{_≢_}
-use mathlib.Core.Option.{none, some}
 use mathlib.Core.List.{List, [], _∷_, _++_}
-use Prim.Native.Nat.{ℕ, _+_, _-_}
+use Prim.Native.Nat.{ℕ, _-_}
 use Rattle.digits.specs.Digits.{digitIn}
 use Rattle.digits.specs.Headers.{headerIn}
 use Rattle.pool.specs.Places.{leafWord, nodeWord, leafRef}
-use Rattle.tree.specs.Tree.{Tree, upd, occurs, mult, sub, dep, Agree, pre, find}
+use Rattle.tree.specs.Tree.{Tree, upd}
+use Rattle.tree.specs.Changes.{Adds, Removes, Clears}
 use Rattle.tree.specs.Shape.{Mem}
 use Rattle.tree.specs.Stores.{Store, run, block, tab, Part}
 use Rattle.layout.specs.Layout.{Held}
@@ -36,29 +34,22 @@ splitStores D N w f k v k₂ z j r target =
     (leafStores z k v ++ block (nodeWord N j) (headerIn D w (f - w) k ∷ tab 16 (splitChildren D f k k₂ z r))) ++ target
 
 -- ---- what they do
--- A put of v for k stores σ and then s. Whatever part of σ is made, the pool holds t as before; after s it holds a tree that has v for k and is
--- otherwise like t, with the slots `taken` reached besides.
-pub record Puts (D N : ℕ) (m : Mem) (t : Tree ℕ) (k v : ℕ) (σ : List Store) (s : Store) (taken : List ℕ) : Type 0 where
-  pub cut : (τ : List Store) → Part σ τ → Held D N (run τ m) t
+-- An operation stores σ, then s, its switch, then ρ. Whatever part of σ is made, the pool holds the tree t; from s on, whatever part of ρ is made, it
+-- holds a tree that t becomes.
+pub record Switches (D N : ℕ) (m : Mem) (σ : List Store) (s : Store) (ρ : List Store) (t : Tree ℕ) (Becomes : Tree ℕ → Type 0) : Type 0 where
+  pub before : (τ : List Store) → Part σ τ → Held D N (run τ m) t
   pub after : Tree ℕ
-  pub whole : Held D N (run (σ ++ s ∷ []) m) after
-  pub found : find (digitIn D) k after ≡ some v
-  pub others : (k′ : ℕ) → k′ ≢ k → find (digitIn D) k′ after ≡ find (digitIn D) k′ t
-  pub slots : (x : ℕ) → mult x after ≡ mult x t + occurs x taken
+  pub since : (τ : List Store) → Part ρ τ → Held D N (run (σ ++ s ∷ τ) m) after
+  pub becomes : Becomes after
 
--- A delete of all that stands at the place π stores s and then ρ. After s, and whatever part of ρ is made, the pool holds a tree that has no key
--- with the digits of the place and is otherwise like t; what stood there is not reached, and the slots `over` are not.
-pub record Drops (D N : ℕ) (m : Mem) (t : Tree ℕ) (π : List ℕ) (s : Store) (ρ : List Store) (over : List ℕ) : Type 0 where
-  pub after : Tree ℕ
-  pub whole : (τ : List Store) → Part ρ τ → Held D N (run (s ∷ τ) m) after
-  pub gone : (k : ℕ) → Agree (digitIn D) (dep π 0 t) (pre (digitIn D) π (λ i. 0) t) k → find (digitIn D) k after ≡ none
-  pub others : (k : ℕ) → find (digitIn D) k (sub π t) ≡ none → find (digitIn D) k after ≡ find (digitIn D) k t
-  pub slots : (x : ℕ) → mult x after + mult x (sub π t) + occurs x over ≡ mult x t
+-- a put of v for k, which takes slots, counts from its last store
+abbrev pub Puts : ℕ → ℕ → Mem → Tree ℕ → ℕ → ℕ → List Store → Store → List ℕ → Type 0
+Puts D N m t k v σ s taken = Switches D N m σ s [] t (Adds (digitIn D) k v taken t)
 
--- The same of a single key: the slots `freed` are not reached any more.
-pub record Deletes (D N : ℕ) (m : Mem) (t : Tree ℕ) (k : ℕ) (s : Store) (ρ : List Store) (freed : List ℕ) : Type 0 where
-  pub after : Tree ℕ
-  pub whole : (τ : List Store) → Part ρ τ → Held D N (run (s ∷ τ) m) after
-  pub gone : find (digitIn D) k after ≡ none
-  pub others : (k′ : ℕ) → k′ ≢ k → find (digitIn D) k′ after ≡ find (digitIn D) k′ t
-  pub slots : (x : ℕ) → mult x after + occurs x freed ≡ mult x t
+-- a delete of k, which frees slots, counts from its first
+abbrev pub Deletes : ℕ → ℕ → Mem → Tree ℕ → ℕ → Store → List Store → List ℕ → Type 0
+Deletes D N m t k s ρ freed = Switches D N m [] s ρ t (Removes (digitIn D) k freed t)
+
+-- the same of all that stands at a place: its slots are freed, and the slots over it
+abbrev pub Drops : ℕ → ℕ → Mem → Tree ℕ → List ℕ → Store → List Store → List ℕ → Type 0
+Drops D N m t π s ρ over = Switches D N m [] s ρ t (Clears (digitIn D) π over t)

@@ -70,11 +70,11 @@ module _ (dig : ℕ → ℕ → ℕ) {A : Type 0} where
   Past f k₂ (leaf x k v) = k ≡ k₂
   Past f k₂ (node x b s kids) = (f < b) × Agree dig b (dig s) k₂
 
-  -- or a node that branches at f and has no child at k's digit
+  -- or a node that branches at f, whose keys begin as k and which has no child at k's digit
   abbrev pub Gap : ℕ → ℕ → Tree A → Type 0
   Gap f k empty = ⊥
   Gap f k (leaf x k′ v) = ⊥
-  Gap f k (node x b s kids) = (b ≡ f) × (kids (dig k f) ≡ empty)
+  Gap f k (node x b s kids) = (b ≡ f) × Agree dig f (dig s) k × (kids (dig k f) ≡ empty)
 
   pub record Placed (k k₂ f w : ℕ) (q : ℕ → ℕ) (t : Tree A) (π : List ℕ) : Type 0 where
     pub on : On π t
@@ -139,14 +139,14 @@ module _ (dig : ℕ → ℕ → ℕ) {A : Type 0} where
         kid-good : Good dig D (b + 1) (upd (dig s) b c) (kids c)
         kid-good = g .3 c (dl k b)
 
-        here : (t : Bool) → ltb b f ≡ false → filled (kids c) ≡ t → dig k f ≢ dig (ks t) f → Agree dig b (dig s) (ks t) → (f ≡ b) ⊎ (f < b)
-            → Past f (ks t) (node x b s kids) ⊎ Gap f k (node x b s kids)
-        here t u e d ag (inr h) = inl (h, ag)
-        here true u e d ag (inl h) =
+        here : (t : Bool) → filled (kids c) ≡ t → ((i : ℕ) → i < f → dig k i ≡ dig (ks t) i) → dig k f ≢ dig (ks t) f → Agree dig b (dig s) (ks t)
+            → (f ≡ b) ⊎ (f < b) → Past f (ks t) (node x b s kids) ⊎ Gap f k (node x b s kids)
+        here t e sm d ag (inr h) = inl (h, ag)
+        here true e sm d ag (inl h) =
             let z : dig (near dig k (kids c)) b ≡ c
             = near-agrees (b + 1) (upd (dig s) b c) (kids c) k (filled-is (kids c) e) kid-good b (omega arith) ∙ upd-at (dig s) b c in
             absurd (d (rw h (sym z)))
-        here false u e d ag (inl h) = inr (sym h, rw h (not-filled (kids c) e))
+        here false e sm d ag (inl h) = inr (sym h, λ i l. sm i l ∙ ag i (omega arith), rw h (not-filled (kids c) e))
 
         go : (Filled (kids c) → Good dig D (b + 1) (upd (dig s) b c) (kids c) → b + 1 ≤ f → ((i : ℕ) → i < f → dig k i ≡ dig (near dig k (kids c)) i)
             → dig k f ≢ dig (near dig k (kids c)) f → Placed k (near dig k (kids c)) f (b + 1) (upd (dig s) b c) (kids c) (way dig f k (kids c)))
@@ -164,5 +164,5 @@ module _ (dig : ℕ → ℕ → ℕ) {A : Type 0} where
               on = tt;
               deep = l;
               digits = λ i h. sm i (omega arith) ∙ ag i (omega arith) ∙ g .2 i h;
-              target = here t u e d ag (eq-or-lt-of-le (ltb-false b f u));
+              target = here t e sm d ag (eq-or-lt-of-le (ltb-false b f u));
             }

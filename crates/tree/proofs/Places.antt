@@ -6,7 +6,7 @@ use mathlib.Core.Option.{Option, none, some}
 use Prim.Native.Nat.{ℕ, _+_, _≤_, _<_}
 use mathlib.Core.List.{List, [], _∷_, _++_}
 use native.Mathlib.Omega.{arith}
-use Rattle.tree.specs.Tree.{Tree, empty, leaf, node, upd, mult, Filled, On, sub, plug, dep, Two, Agree, pre, find, Good}
+use Rattle.tree.specs.Tree.{Tree, empty, leaf, node, upd, mult, Filled, On, sub, plug, dep, Stands, Two, Agree, pre, find, Good}
 use Rattle.tree.proofs.Basics.{Same?, same, other, same?, upd-at, upd-off, upd-case, sum-has, sum-upd}
 
 module _ {A : Type 0} where
@@ -19,21 +19,25 @@ module _ {A : Type 0} where
   plug-sub (c ∷ π) (node x b s kids) o =
       ap (node x b s) (fun-ext (λ d. upd-case {B = Tree A} (λ d t. t ≡ kids d) kids c (plug π (kids c) (sub π (kids c))) d (plug-sub π (kids c) (o .1)) (λ n. refl)))
 
-  -- the place is there still, and has what was put there
-  pub record Plugged (π : List ℕ) (t u : Tree A) : Type 0 where
-    pub on : On π (plug π t u)
-    pub sub-is : sub π (plug π t u) ≡ u
-    pub dep-is : (w : ℕ) → dep π w (plug π t u) ≡ dep π w t
-
-  pub plugged : (π : List ℕ) (t u : Tree A) → On π t → Plugged π t u
-  unfolding On sub plug dep
-  plugged [] t u o = record { on = tt; sub-is = refl; dep-is = λ w. refl }
-  plugged (c ∷ π) empty u o = absurd o
-  plugged (c ∷ π) (leaf x k v) u o = absurd o
-  plugged (c ∷ π) (node x b s kids) u o =
-      let p : Plugged π (kids c) u = plugged π (kids c) u (o .1) in
+  -- u stands there then, at the same walk depth
+  pub plug-stands : (π : List ℕ) (t u : Tree A) → On π t → Stands π u (plug π t u)
+  unfolding On sub plug
+  plug-stands [] t u o = record { on = tt; is = refl }
+  plug-stands (c ∷ π) empty u o = absurd o
+  plug-stands (c ∷ π) (leaf x k v) u o = absurd o
+  plug-stands (c ∷ π) (node x b s kids) u o =
+      let p : Stands π u (plug π (kids c) u) = plug-stands π (kids c) u (o .1) in
       let e : upd kids c (plug π (kids c) u) c ≡ plug π (kids c) u = upd-at kids c (plug π (kids c) u) in
-      record { on = (o .0, rw e (p .on)); sub-is = rw e (p .sub-is); dep-is = λ w. rw e (p .dep-is (b + 1)) }
+      record { on = (o .0, rw e (p .on)); is = rw e (p .is) }
+
+  pub plug-dep : (π : List ℕ) (w : ℕ) (t u : Tree A) → On π t → dep π w (plug π t u) ≡ dep π w t
+  unfolding On plug dep
+  plug-dep [] w t u o = refl
+  plug-dep (c ∷ π) w empty u o = absurd o
+  plug-dep (c ∷ π) w (leaf x k v) u o = absurd o
+  plug-dep (c ∷ π) w (node x b s kids) u o =
+      let e : upd kids c (plug π (kids c) u) c ≡ plug π (kids c) u = upd-at kids c (plug π (kids c) u) in
+      rw e (plug-dep π (b + 1) (kids c) u (o .1))
 
   -- ---- counts
   pub sub-mult : (π : List ℕ) (t : Tree A) (x : ℕ) → On π t → mult x (sub π t) ≤ mult x t
@@ -61,39 +65,38 @@ module _ {A : Type 0} where
 -- ---- the child of a node at a place
 module _ (dig : ℕ → ℕ → ℕ) {A : Type 0} where
   pub record Child (ρ : List ℕ) (c x b s : ℕ) (kids : ℕ → Tree A) (t : Tree A) : Type 0 where
-    pub on : On (ρ ++ c ∷ []) t
-    pub sub-is : sub (ρ ++ c ∷ []) t ≡ kids c
+    pub stands : Stands (ρ ++ c ∷ []) (kids c) t
     pub dep-is : (w : ℕ) → dep (ρ ++ c ∷ []) w t ≡ b + 1
     pub pre-is : (q : ℕ → ℕ) → pre dig (ρ ++ c ∷ []) q t ≡ upd (dig s) b c
     pub plug-is : (u : Tree A) → plug (ρ ++ c ∷ []) t u ≡ plug ρ t (node x b s (upd kids c u))
 
-  pub child : (ρ : List ℕ) (c x b s : ℕ) (kids : ℕ → Tree A) (t : Tree A) → On ρ t → sub ρ t ≡ node x b s kids → c < 16 → Child ρ c x b s kids t
+  pub child : (ρ : List ℕ) (c x b s : ℕ) (kids : ℕ → Tree A) (t : Tree A) → c < 16 → Stands ρ (node x b s kids) t → Child ρ c x b s kids t
   unfolding On sub plug dep pre
-  child [] c x b s kids t o e l =
-      subst (Child [] c x b s kids) (sym e) (record { on = (l, tt); sub-is = refl; dep-is = λ w. refl; pre-is = λ q. refl; plug-is = λ u. refl })
-  child (d ∷ ρ) c x b s kids empty o e l = absurd o
-  child (d ∷ ρ) c x b s kids (leaf y k v) o e l = absurd o
-  child (d ∷ ρ) c x b s kids (node y b′ s′ kids′) o e l =
-      let p : Child ρ c x b s kids (kids′ d) = child ρ c x b s kids (kids′ d) (o .1) e l in
+  child [] c x b s kids t l p =
+      subst (Child [] c x b s kids) (sym (p .is))
+      (record { stands = record { on = (l, tt); is = refl }; dep-is = λ w. refl; pre-is = λ q. refl; plug-is = λ u. refl })
+  child (d ∷ ρ) c x b s kids empty l p = absurd (p .on)
+  child (d ∷ ρ) c x b s kids (leaf y k v) l p = absurd (p .on)
+  child (d ∷ ρ) c x b s kids (node y b′ s′ kids′) l p =
+      let C : Child ρ c x b s kids (kids′ d) = child ρ c x b s kids (kids′ d) l (record { on = p .on .1; is = p .is }) in
       record {
-        on = (o .0, p .on);
-        sub-is = p .sub-is;
-        dep-is = λ w. p .dep-is (b′ + 1);
-        pre-is = λ q. p .pre-is (upd (dig s′) b′ d);
-        plug-is = λ u. ap (λ z. node y b′ s′ (upd kids′ d z)) (p .plug-is u);
+        stands = record { on = (p .on .0, C .stands .on); is = C .stands .is };
+        dep-is = λ w. C .dep-is (b′ + 1);
+        pre-is = λ q. C .pre-is (upd (dig s′) b′ d);
+        plug-is = λ u. ap (λ z. node y b′ s′ (upd kids′ d z)) (C .plug-is u);
       }
 
 -- a place is the root, or a child of a node
 pub by-place : {A : Type 0} (P : List ℕ → Type 0) (t : Tree A) → P []
-    → ((ρ : List ℕ) (c x b s : ℕ) (kids : ℕ → Tree A) → On ρ t → sub ρ t ≡ node x b s kids → c < 16 → P (ρ ++ c ∷ []))
+    → ((ρ : List ℕ) (c x b s : ℕ) (kids : ℕ → Tree A) → c < 16 → Stands ρ (node x b s kids) t → P (ρ ++ c ∷ []))
     → (π : List ℕ) → On π t → P π
 unfolding On sub
-by-place P t root child [] o = root
-by-place P empty root child (c ∷ π) o = absurd o
-by-place P (leaf x k v) root child (c ∷ π) o = absurd o
-by-place P (node x b s kids) root child (c ∷ π) o =
-    by-place (λ ρ. P (c ∷ ρ)) (kids c) (child [] c x b s kids tt refl (o .0))
-    (λ ρ d y b′ s′ kids′ oρ at l. child (c ∷ ρ) d y b′ s′ kids′ (o .0, oρ) at l) π (o .1)
+by-place P t root below [] o = root
+by-place P empty root below (c ∷ π) o = absurd o
+by-place P (leaf x k v) root below (c ∷ π) o = absurd o
+by-place P (node x b s kids) root below (c ∷ π) o =
+    by-place (λ ρ. P (c ∷ ρ)) (kids c) (below [] c x b s kids (o .0) (record { on = tt; is = refl }))
+    (λ ρ d y b′ s′ kids′ l p. below (c ∷ ρ) d y b′ s′ kids′ l (record { on = (o .0, p .on); is = p .is })) π (o .1)
 
 -- ---- digits
 -- from a child's digits to the node's

@@ -110,7 +110,7 @@ free (suc n) f h = go (free n f) (f n) refl
     go ih (suc a) e = let (x, l, p) = ih (omega arith) in (x, omega arith, p)
 
 module _ (f : ℕ → ℕ) (le : (i : ℕ) → f i ≤ 1) where
-  at-most-all : (n : ℕ) → sum n f ≤ n
+  pub at-most-all : (n : ℕ) → sum n f ≤ n
   at-most-all zero = omega arith
   at-most-all (suc n) = omega (arith, at-most-all n, le n)
 

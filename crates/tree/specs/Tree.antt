@@ -22,11 +22,6 @@ abbrev pub one : Bool → ℕ
 one true = 1
 one false = 0
 
--- how often x stands in a list
-unfoldable pub occurs : ℕ → List ℕ → ℕ
-occurs x [] = 0
-occurs x (y ∷ l) = one (eqb x y) + occurs x l
-
 -- A slot is named by its byte number in the map. A leaf: slot, key, value. A node: slot, branch place b, a key whose first b digits are those
 -- of every key below, and the child at each digit.
 pub data Tree (A : Type 0) : Type 0 where
@@ -85,6 +80,11 @@ module _ {A : Type 0} where
   dep (c ∷ π) w (leaf x k v) = w
   dep (c ∷ π) w (node x b s kids) = dep π (b + 1) (kids c)
 
+-- u stands at the place π of t
+pub record Stands {A : Type 0} (π : List ℕ) (u t : Tree A) : Type 0 where
+  pub on : On π t
+  pub is : sub π t ≡ u
+
 -- at least two children
 pub record Two {A : Type 0} (kids : ℕ → Tree A) : Type 0 where
   pub c : ℕ
@@ -119,3 +119,10 @@ module _ (dig : ℕ → ℕ → ℕ) where
   Good D w q empty = Unit {0}
   Good D w q (leaf x k v) = Agree w q k
   Good D w q (node x b s kids) = (w ≤ b) × (b < D) × Agree w q s × ((c : ℕ) → c < 16 → Good D (b + 1) (upd (dig s) b c) (kids c)) × Two kids
+
+  -- k has the digits that lead to the place π of a whole tree, and u is good there
+  abbrev pub Leads : {A : Type 0} → List ℕ → Tree A → ℕ → Type 0
+  Leads π t k = Agree (dep π 0 t) (pre π (λ i. 0) t) k
+
+  abbrev pub GoodAt : {A : Type 0} → ℕ → List ℕ → Tree A → Tree A → Type 0
+  GoodAt D π t u = Good D (dep π 0 t) (pre π (λ i. 0) t) u

@@ -1,0 +1,71 @@
+-- What is held at the places of a held tree, and in which slots. That no slot is reached twice follows from the rest.
+-- Rests on the layout's laws. Assumes nothing.
+use mathlib.Core.Path.{_≡_, subst}
+use mathlib.Core.Logic.{_⊎_, inl, inr}
+use Prim.Native.Nat.{ℕ, _+_, _-_, _*_, _≤_, _<_}
+use mathlib.Core.List.{List, [], _∷_, _++_}
+use native.Mathlib.Omega.{arith}
+use Rattle.digits.specs.Digits.{digitIn}
+use Rattle.digits.proofs.Digits.{digit-lt}
+use Rattle.pool.specs.Places.{childWord}
+use Rattle.tree.specs.Tree.{Tree, empty, leaf, node, mult, On, sub, dep, Stands, Good, GoodAt}
+use Rattle.tree.specs.Shape.{Mem, Holds}
+use Rattle.tree.proofs.Basics.{less?}
+use Rattle.tree.proofs.Places.{good-sub}
+use Rattle.tree.proofs.Once.{once}
+use Rattle.tree.proofs.Room.{Slots, slots-out}
+use Rattle.layout.specs.Layout.{base, Held, refAt}
+use Rattle.layout.proofs.Base.{base-lawful, slots-held}
+
+module _ (D N : ℕ) where
+  pub once-follows : (m : Mem) (q : ℕ → ℕ) (t : Tree ℕ) → Holds (base D N) m 0 (m 1) t → Good (digitIn D) D 0 q t → (x : ℕ) → mult x t ≤ 1
+  once-follows m q t h g x = once (base D N) (base-lawful D N) (digitIn D) (digit-lt D) D m x 0 (m 1) q t h g
+
+  pub held : (m : Mem) (t : Tree ℕ) → Holds (base D N) m 0 (m 1) t → Good (digitIn D) D 0 (λ i. 0) t → Held D N m t
+  held m t h g = record { holds = h; good = g; once = once-follows m (λ i. 0) t h g }
+
+  -- ---- places
+  pub sub-holds : (m : Mem) (π : List ℕ) (w i : ℕ) (t : Tree ℕ) → On π t → Holds (base D N) m w (m i) t
+      → Holds (base D N) m (dep π w t) (m (refAt N i π t)) (sub π t)
+  unfolding On sub dep refAt Holds base
+  sub-holds m [] w i t o g = g
+  sub-holds m (c ∷ π) w i empty o g = absurd o
+  sub-holds m (c ∷ π) w i (leaf x k v) o g = absurd o
+  sub-holds m (c ∷ π) w i (node x b s kids) o g = sub-holds m π (b + 1) (childWord N (x - N) c) (kids c) (o .1) (g .1 c (o .0))
+
+  -- the reference of a child
+  pub ref-child : (i : ℕ) (ρ : List ℕ) (c x b s : ℕ) (kids : ℕ → Tree ℕ) (t : Tree ℕ) → Stands ρ (node x b s kids) t
+      → refAt N i (ρ ++ c ∷ []) t ≡ childWord N (x - N) c
+  unfolding On sub refAt
+  ref-child i [] c x b s kids t p = rw (p .is)
+  ref-child i (d ∷ ρ) c x b s kids empty p = absurd (p .on)
+  ref-child i (d ∷ ρ) c x b s kids (leaf y k v) p = absurd (p .on)
+  ref-child i (d ∷ ρ) c x b s kids (node y b′ s′ kids′) p =
+      ref-child (childWord N (y - N) d) ρ c x b s kids (kids′ d) (record { on = p .on .1; is = p .is })
+
+  module _ (m : Mem) (t : Tree ℕ) (H : Held D N m t) (π : List ℕ) where
+    pub holds-at : (u : Tree ℕ) → Stands π u t → Holds (base D N) m (dep π 0 t) (m (refAt N 1 π t)) u
+    holds-at u p = subst (Holds (base D N) m (dep π 0 t) (m (refAt N 1 π t))) (p .is) (sub-holds m π 0 1 t (p .on) (H .holds))
+
+    pub good-at : (u : Tree ℕ) → Stands π u t → GoodAt (digitIn D) D π t u
+    good-at u p = subst (GoodAt (digitIn D) D π t) (p .is) (good-sub (digitIn D) D π 0 (λ i. 0) t (p .on) (H .good))
+
+    -- ---- slots
+    slots-at : (u : Tree ℕ) → Stands π u t → Slots N u
+    slots-at u p = slots-held D N m (dep π 0 t) (m (refAt N 1 π t)) u (holds-at u p)
+
+    pub leaf-slot : (x k v : ℕ) → Stands π (leaf x k v) t → x < N
+    unfolding Slots
+    leaf-slot x k v p = slots-at (leaf x k v) p
+
+    pub node-slot : (x b s : ℕ) (kids : ℕ → Tree ℕ) → Stands π (node x b s kids) t → (N ≤ x) × (x + 1 < N + N)
+    unfolding Slots
+    node-slot x b s kids p = let (low, high, below) = slots-at (node x b s kids) p in (low, high)
+
+  -- words 0 and 1 belong to no slot that is reached
+  pub slot-low : (m : Mem) (w r : ℕ) (t : Tree ℕ) (x : ℕ) → Holds (base D N) m w r t → 0 < mult x t → x < 2 * N
+  slot-low m w r t x g h = go (less? x (2 * N))
+    where
+      go : (x < 2 * N) ⊎ (2 * N ≤ x) → x < 2 * N
+      go (inl l) = l
+      go (inr l) = absurd (omega (arith, slots-out N t (slots-held D N m w r t g) x (omega arith)))
