@@ -69,20 +69,6 @@ unfolding own
 own-node N j i a b = rw (le-ltb i 2 (omega arith), le-ltb i (2 + 2 * N) (omega arith)) (omega arith)
 
 -- ---- what a reference shows
--- a header shows its node, or damage
-pub data HeadIs (x : ℕ) (s : View ℕ) : Type 0 where
-  is-node : (h b g : ℕ) → s ≡ node-there x h b g → HeadIs x s
-  is-bad : s ≡ bad → HeadIs x s
-
-pub head-is : (D x word : ℕ) → HeadIs x (headView D x word)
-unfolding headView
-head-is D x word = go (ltb (lengthOf word) D) (ltb (depthOf word + lengthOf word) D)
-  where
-    go : (a b : Bool) → HeadIs x (pick {A = View ℕ} a (pick {A = View ℕ} b (node-there x (depthOf word) (depthOf word + lengthOf word) (word % 2 ^ 48)) bad) bad)
-    go true true = is-node _ _ _ refl
-    go true false = is-bad refl
-    go false b = is-bad refl
-
 pub record SeesLeaf (N : ℕ) (m : Mem) (r x k v : ℕ) : Type 0 where
   pub ref : refOf N r ≡ Leaf x
   pub within : x < N
@@ -95,59 +81,40 @@ pub record SeesNode (D N : ℕ) (m : Mem) (r x h b g : ℕ) : Type 0 where
   pub high : x + 1 < N + N
   pub head : headView D x (m (nodeWord N (x - N))) ≡ node-there x h b g
 
-never : {A : Type 0} → _≡_ {A = ℕ} 0 1 → A
-never z = absurd (omega arith)
+abbrev pub Sees : ℕ → ℕ → Mem → ℕ → View ℕ → Type 0
+Sees D N m r none-there = r ≡ 0
+Sees D N m r (leaf-there x k v) = SeesLeaf N m r x k v
+Sees D N m r (node-there x h b g) = SeesNode D N m r x h b g
+Sees D N m r bad = Unit {0}
 
 module _ (D N : ℕ) (m : Mem) (r : ℕ) where
-  leaf-case : (x k v : ℕ) (d : Ref) → refOf N r ≡ d → Decoded N r d → refView D N m d ≡ leaf-there x k v → SeesLeaf N m r x k v
-  unfolding refView
-  leaf-case x k v Empty p g e = never cc
-  leaf-case x k v (Leaf i) p g e =
-      let z : i ≡ x = cc in
-      record { ref = rw z at p; within = rw z at (g .0); key = rw (← z) (cc); value = rw (← z) (cc) }
-  leaf-case x k v (Node j) p g e = go (head-is D (N + j) (m (nodeWord N j)))
+  -- a header shows its node, or damage
+  head-sees : (j : ℕ) → refOf N r ≡ Node j → j + 1 < N → Sees D N m r (headView D (N + j) (m (nodeWord N j)))
+  unfolding headView
+  head-sees j p l = go (ltb (lengthOf word) D) refl (ltb (depthOf word + lengthOf word) D) refl
     where
-      go : HeadIs (N + j) (headView D (N + j) (m (nodeWord N j))) → SeesLeaf N m r x k v
-      go (is-node h b s q) = never cc
-      go (is-bad q) = never cc
-  leaf-case x k v Bad p g e = never cc
+      word : ℕ
+      word = m (nodeWord N j)
 
-  node-case : (x h b s : ℕ) (d : Ref) → refOf N r ≡ d → Decoded N r d → refView D N m d ≡ node-there x h b s → SeesNode D N m r x h b s
+      back : N + j - N ≡ j
+      back = omega arith
+
+      go : (a : Bool) → ltb (lengthOf word) D ≡ a → (b : Bool) → ltb (depthOf word + lengthOf word) D ≡ b
+          → Sees D N m r (pick a (pick b (node-there (N + j) (depthOf word) (depthOf word + lengthOf word) (word % 2 ^ 48)) bad) bad)
+      go true ea true eb = record { ref = p ∙ ap Node (sym back); low = omega arith; high = omega arith; head = rw (back, ea, eb) }
+      go true ea false eb = tt
+      go false ea b eb = tt
+
+  ref-sees : (d : Ref) → refOf N r ≡ d → Decoded N r d → Sees D N m r (refView D N m d)
   unfolding refView
-  node-case x h b s Empty p g e = never cc
-  node-case x h b s (Leaf i) p g e = never cc
-  node-case x h b s (Node j) p g e = go (head-is D (N + j) (m (nodeWord N j)))
-    where
-      go : HeadIs (N + j) (headView D (N + j) (m (nodeWord N j))) → SeesNode D N m r x h b s
-      go (is-node h′ b′ s′ q) =
-          let z : N + j ≡ x = cc in
-          let y : j ≡ x - N = omega arith in
-          record { ref = p ∙ ap Node y; low = omega arith; high = omega (arith, g .0); head = rw (← y) (rw z at e) }
-      go (is-bad q) = never cc
-  node-case x h b s Bad p g e = never cc
+  ref-sees Empty p g = g
+  ref-sees (Leaf i) p g = record { ref = p; within = g .0; key = refl; value = refl }
+  ref-sees (Node j) p g = head-sees j p (g .0)
+  ref-sees Bad p g = tt
 
-  none-case : (d : Ref) → Decoded N r d → refView D N m d ≡ none-there → r ≡ 0
-  unfolding refView
-  none-case Empty g e = g
-  none-case (Leaf i) g e = never cc
-  none-case (Node j) g e = go (head-is D (N + j) (m (nodeWord N j)))
-    where
-      go : HeadIs (N + j) (headView D (N + j) (m (nodeWord N j))) → r ≡ 0
-      go (is-node h b s q) = never cc
-      go (is-bad q) = never cc
-  none-case Bad g e = never cc
-
-  pub sees-leaf : (x k v : ℕ) → base D N .view m r ≡ leaf-there x k v → SeesLeaf N m r x k v
+  pub sees : (u : View ℕ) → base D N .view m r ≡ u → Sees D N m r u
   unfolding base
-  sees-leaf x k v e = leaf-case x k v (refOf N r) refl (decoded N r) e
-
-  pub sees-node : (x h b s : ℕ) → base D N .view m r ≡ node-there x h b s → SeesNode D N m r x h b s
-  unfolding base
-  sees-node x h b s e = node-case x h b s (refOf N r) refl (decoded N r) e
-
-  pub sees-none : base D N .view m r ≡ none-there → r ≡ 0
-  unfolding base
-  sees-none e = none-case (refOf N r) (decoded N r) e
+  sees u e = subst (Sees D N m r) e (ref-sees (refOf N r) refl (decoded N r))
 
   -- and the other way round
   pub leaf-seen : (x k v : ℕ) → SeesLeaf N m r x k v → base D N .view m r ≡ leaf-there x k v
@@ -176,31 +143,27 @@ slotRef N x = pick (ltb x N) (leafRef x) (nodeRef (x - N))
 module _ (D N : ℕ) where
   shown-ref : (m : Mem) (r x : ℕ) → Shows x (base D N .view m r) → r ≡ slotRef N x
   unfolding slotRef
-  shown-ref m r x s = go (base D N .view m r) refl s
+  shown-ref m r x s = go (base D N .view m r) (sees D N m r (base D N .view m r) refl) s
     where
-      go : (u : View ℕ) → base D N .view m r ≡ u → Shows x u → r ≡ pick (ltb x N) (leafRef x) (nodeRef (x - N))
-      go none-there e z = absurd z
-      go (leaf-there y k v) e z =
-          let p : SeesLeaf N m r y k v = sees-leaf D N m r y k v e in
-          rw (z, lt-ltb y N (p .within)) ((subst (Decoded N r) (p .ref) (decoded N r)) .1)
-      go (node-there y h b g) e z =
-          let p : SeesNode D N m r y h b g = sees-node D N m r y h b g e in
-          rw (z, le-ltb y N (p .low)) ((subst (Decoded N r) (p .ref) (decoded N r)) .1)
-      go bad e z = absurd z
+      go : (u : View ℕ) → Sees D N m r u → Shows x u → r ≡ pick (ltb x N) (leafRef x) (nodeRef (x - N))
+      go none-there p z = absurd z
+      go (leaf-there y k v) p z = rw (z, lt-ltb y N (p .within)) ((subst (Decoded N r) (p .ref) (decoded N r)) .1)
+      go (node-there y h b g) p z = rw (z, le-ltb y N (p .low)) ((subst (Decoded N r) (p .ref) (decoded N r)) .1)
+      go bad p z = absurd z
 
   -- of a node only the header's word is seen
   pub head-kept : (m m′ : Mem) (r x h b g : ℕ) → base D N .view m r ≡ node-there x h b g → m′ (nodeWord N (x - N)) ≡ m (nodeWord N (x - N))
       → base D N .view m′ r ≡ node-there x h b g
   head-kept m m′ r x h b g e same =
-      let p : SeesNode D N m r x h b g = sees-node D N m r x h b g e in
+      let p : SeesNode D N m r x h b g = sees D N m r (node-there x h b g) e in
       node-seen D N m′ r x h b g (record { ref = p .ref; low = p .low; high = p .high; head = rw same (p .head) })
 
   pub base-lawful : Lawful (base D N)
   unfolding base
   base-lawful = record {
-    none-same = λ m m′ r e. rw (sees-none D N m r e) (none-seen D N m′);
+    none-same = λ m m′ r e. rw (sees D N m r none-there e) (none-seen D N m′);
     leaf-same = λ m m′ r x k v e s.
-        let p : SeesLeaf N m r x k v = sees-leaf D N m r x k v e in
+        let p : SeesLeaf N m r x k v = sees D N m r (leaf-there x k v) e in
         leaf-seen D N m′ r x k v (record {
           ref = p .ref;
           within = p .within;
@@ -209,9 +172,9 @@ module _ (D N : ℕ) where
         });
     node-same = λ m m′ r x h b g e s.
         head-kept m m′ r x h b g e
-        (s (nodeWord N (x - N)) (own-slot N x (nodeWord N (x - N)) ((sees-node D N m r x h b g e) .low) (omega arith) (omega arith)));
+        (s (nodeWord N (x - N)) (own-slot N x (nodeWord N (x - N)) ((sees D N m r (node-there x h b g) e) .low) (omega arith) (omega arith)));
     kid-same = λ m m′ r x h b g c e l s.
-        s (childWord N (x - N) c) (own-slot N x (childWord N (x - N) c) ((sees-node D N m r x h b g e) .low) (omega arith) (omega arith));
+        s (childWord N (x - N) c) (own-slot N x (childWord N (x - N) c) ((sees D N m r (node-there x h b g) e) .low) (omega arith) (omega arith));
     one-ref = λ m r r′ x s s′. shown-ref m r x s ∙ sym (shown-ref m r′ x s′);
   }
 
@@ -219,7 +182,7 @@ module _ (D N : ℕ) where
   pub slots-held : (m : Mem) (w r : ℕ) (t : Tree ℕ) → Holds (base D N) m w r t → Slots N t
   unfolding Holds Slots
   slots-held m w r empty g = tt
-  slots-held m w r (leaf x k v) g = (sees-leaf D N m r x k v g) .within
+  slots-held m w r (leaf x k v) g = (sees D N m r (leaf-there x k v) g) .within
   slots-held m w r (node x b s kids) g =
-      let p = sees-node D N m r x (g .0 .h) b (base D N .stored (g .0 .h) b s) (g .0 .there) in
+      let p = sees D N m r (node-there x (g .0 .h) b (base D N .stored (g .0 .h) b s)) (g .0 .there) in
       (p .low, p .high, λ c l. slots-held m (b + 1) (base D N .kid m x c) (kids c) (g .1 c l))

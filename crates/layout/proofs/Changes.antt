@@ -50,7 +50,7 @@ module _ (D N : ℕ) (m : Mem) (t : Tree ℕ) (H : Held D N m t) where
       (λ x l h e. omega (arith, own-root N))
       (λ ρ c y b s kids lc p x l h e.
       let q : own N (childWord N (y - N) c) ≡ y = own-slot N y (childWord N (y - N) c) ((node-slot D N m t H ρ y b s kids p) .0) (omega arith) (omega arith) in
-      let z : x ≡ y = sym e ∙ ap (own N) (ref-child D N 1 ρ c y b s kids t p) ∙ q in
+      let z : x ≡ y = sym e ∙ ap (own N) (ref-child D N ρ c y b s kids t p) ∙ q in
       omega (
         arith,
         sub-mult ρ t x (p .on),
@@ -97,7 +97,7 @@ module _ (D N : ℕ) (m : Mem) (t : Tree ℕ) (H : Held D N m t) where
         by-place (λ π. Holds (base D N) (upd m (refAt N 1 π t) r) (dep π 0 t) r u → Holds (base D N) (upd m (refAt N 1 π t) r) 0 (upd m (refAt N 1 π t) r 1) (plug π t u)) t
         (λ g. rw (upd-at m 1 r) g)
         (λ ρ c x b s kids lc p g.
-        let q : refAt N 1 (ρ ++ c ∷ []) t ≡ childWord N (x - N) c = ref-child D N 1 ρ c x b s kids t p in
+        let q : refAt N 1 (ρ ++ c ∷ []) t ≡ childWord N (x - N) c = ref-child D N ρ c x b s kids t p in
         let C : Child (digitIn D) ρ c x b s kids t = child (digitIn D) ρ c x b s kids t lc p in
         rw (q, C .plug-is u) (child-switched ρ c x b s kids lc p (rw (q, C .dep-is 0) at g)))
         π on (still π on new apart)

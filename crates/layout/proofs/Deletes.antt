@@ -8,7 +8,7 @@ use native.Mathlib.Omega.{arith}
 use Rattle.digits.specs.Digits.{digitIn}
 use Rattle.digits.proofs.Digits.{digit-lt}
 use Rattle.pool.specs.Places.{childWord}
-use Rattle.tree.specs.Tree.{Tree, empty, leaf, node, upd, mult, Filled, On, plug, dep, Stands, Agree, Good, GoodAt}
+use Rattle.tree.specs.Tree.{Tree, empty, leaf, node, upd, mult, Filled, On, here, plug, dep, Stands, Agree, Good, GoodAt}
 use Rattle.tree.specs.Shape.{Mem, Holds}
 use Rattle.tree.specs.Near.{children}
 use Rattle.tree.specs.Stores.{Store, run, Part}
@@ -39,14 +39,14 @@ module _ (D N : ℕ) (m : Mem) (t : Tree ℕ) (H : Held D N m t) where
 
   -- which is the root
   pub drops-root : Drops D N m t [] (store 1 0) [] []
-  unfolding refAt On plug Good
-  drops-root = drops [] tt tt
+  unfolding refAt plug Good
+  drops-root = drops [] here tt
 
   module _ (ρ : List ℕ) (x b s : ℕ) (kids : ℕ → Tree ℕ) (p : Stands ρ (node x b s kids) t) (c : ℕ) (lc : c < 16) where
     -- or the child of a node of three or more
     pub drops-child : 3 ≤ children kids → Drops D N m t (ρ ++ c ∷ []) (store (childWord N (x - N) c) 0) [] []
     drops-child h =
-        subst (λ i. Drops D N m t (ρ ++ c ∷ []) (store i 0) [] []) (ref-child D N 1 ρ c x b s kids t p)
+        subst (λ i. Drops D N m t (ρ ++ c ∷ []) (store i 0) [] []) (ref-child D N ρ c x b s kids t p)
         (drops (ρ ++ c ∷ []) ((child (digitIn D) ρ c x b s kids t lc p) .stands .on)
         (child-dropped-good (digitIn D) (digit-lt D) D t (H .good) ρ x b s kids p c lc h))
 

@@ -20,7 +20,7 @@ use Rattle.tree.proofs.Frame.{rehead}
 use Rattle.tree.proofs.Stores.{part-one}
 use Rattle.layout.specs.Layout.{own, headView, base, Held}
 use Rattle.layout.specs.Operations.{headerStore}
-use Rattle.layout.proofs.Base.{sees-node, node-seen, own-slot, base-lawful}
+use Rattle.layout.proofs.Base.{sees, node-seen, own-slot, base-lawful}
 use Rattle.layout.proofs.Held.{held, good-at, node-slot}
 use Rattle.layout.proofs.Changes.{amended}
 
@@ -47,7 +47,7 @@ module _ (D N : ℕ) (d : D ≤ 256) where
   header-holds m w w′ r x b s kids h s′ g apart a l k agree =
       let i : ℕ = nodeWord N (x - N) in
       let v : ℕ = headerIn D h (b - h) s′ in
-      let p = sees-node D N m r x (g .0 .h) b (base D N .stored (g .0 .h) b s) (g .0 .there) in
+      let p = sees D N m r (node-there x (g .0 .h) b (base D N .stored (g .0 .h) b s)) (g .0 .there) in
       rehead (base D N) (base-lawful D N) m (upd m i v) w w′ r x b s kids g
       (record {
         h = h;

@@ -4,18 +4,22 @@ use mathlib.Core.Path.{_≡_, subst}
 use mathlib.Core.Logic.{_⊎_, inl, inr}
 use Prim.Native.Nat.{ℕ, _+_, _-_, _*_, _≤_, _<_}
 use mathlib.Core.List.{List, [], _∷_, _++_}
+use mathlib.Core.Bool.{not}
 use native.Mathlib.Omega.{arith}
+use lib.Dec.{eqb}
+use borrow.Author.Tests.{eq-eqb, ne-eqb}
 use Rattle.digits.specs.Digits.{digitIn}
 use Rattle.digits.proofs.Digits.{digit-lt}
-use Rattle.pool.specs.Places.{childWord}
-use Rattle.tree.specs.Tree.{Tree, empty, leaf, node, mult, On, sub, dep, Stands, Good, GoodAt}
-use Rattle.tree.specs.Shape.{Mem, Holds}
+use Rattle.pool.specs.Places.{childWord, leafRef, nodeRef}
+use Rattle.tree.specs.Tree.{Tree, empty, leaf, node, mult, On, here, down, sub, dep, Stands, Good, GoodAt}
+use Rattle.tree.specs.Shape.{none-there, leaf-there, node-there, Mem, Holds}
+use Rattle.tree.specs.Near.{filled}
 use Rattle.tree.proofs.Basics.{less?}
 use Rattle.tree.proofs.Places.{good-sub}
 use Rattle.tree.proofs.Once.{once}
 use Rattle.tree.proofs.Room.{Slots, slots-out}
 use Rattle.layout.specs.Layout.{base, Held, refAt}
-use Rattle.layout.proofs.Base.{base-lawful, slots-held}
+use Rattle.layout.proofs.Base.{Decoded, decoded, sees, base-lawful, slots-held}
 
 module _ (D N : ℕ) where
   pub once-follows : (m : Mem) (q : ℕ → ℕ) (t : Tree ℕ) → Holds (base D N) m 0 (m 1) t → Good (digitIn D) D 0 q t → (x : ℕ) → mult x t ≤ 1
@@ -27,21 +31,19 @@ module _ (D N : ℕ) where
   -- ---- places
   pub sub-holds : (m : Mem) (π : List ℕ) (w i : ℕ) (t : Tree ℕ) → On π t → Holds (base D N) m w (m i) t
       → Holds (base D N) m (dep π w t) (m (refAt N i π t)) (sub π t)
-  unfolding On sub dep refAt Holds base
-  sub-holds m [] w i t o g = g
-  sub-holds m (c ∷ π) w i empty o g = absurd o
-  sub-holds m (c ∷ π) w i (leaf x k v) o g = absurd o
-  sub-holds m (c ∷ π) w i (node x b s kids) o g = sub-holds m π (b + 1) (childWord N (x - N) c) (kids c) (o .1) (g .1 c (o .0))
+  unfolding sub dep refAt Holds base
+  sub-holds m π w i t here g = g
+  sub-holds m π w i t (down {c} {x} {b} {kids = kids} {π = ρ} l o) g = sub-holds m ρ (b + 1) (childWord N (x - N) c) (kids c) o (g .1 c l)
 
   -- the reference of a child
-  pub ref-child : (i : ℕ) (ρ : List ℕ) (c x b s : ℕ) (kids : ℕ → Tree ℕ) (t : Tree ℕ) → Stands ρ (node x b s kids) t
+  ref-child-on : (i : ℕ) (ρ : List ℕ) (c x b s : ℕ) (kids : ℕ → Tree ℕ) (t : Tree ℕ) → On ρ t → sub ρ t ≡ node x b s kids
       → refAt N i (ρ ++ c ∷ []) t ≡ childWord N (x - N) c
-  unfolding On sub refAt
-  ref-child i [] c x b s kids t p = rw (p .is)
-  ref-child i (d ∷ ρ) c x b s kids empty p = absurd (p .on)
-  ref-child i (d ∷ ρ) c x b s kids (leaf y k v) p = absurd (p .on)
-  ref-child i (d ∷ ρ) c x b s kids (node y b′ s′ kids′) p =
-      ref-child (childWord N (y - N) d) ρ c x b s kids (kids′ d) (record { on = p .on .1; is = p .is })
+  unfolding sub refAt
+  ref-child-on i ρ c x b s kids t here e = rw e
+  ref-child-on i ρ c x b s kids t (down {c = d} {x = y} {kids = kids′} {π = π} l o) e = ref-child-on (childWord N (y - N) d) π c x b s kids (kids′ d) o e
+
+  pub ref-child : (ρ : List ℕ) (c x b s : ℕ) (kids : ℕ → Tree ℕ) (t : Tree ℕ) → Stands ρ (node x b s kids) t → refAt N 1 (ρ ++ c ∷ []) t ≡ childWord N (x - N) c
+  ref-child ρ c x b s kids t p = ref-child-on 1 ρ c x b s kids t (p .on) (p .is)
 
   module _ (m : Mem) (t : Tree ℕ) (H : Held D N m t) (π : List ℕ) where
     pub holds-at : (u : Tree ℕ) → Stands π u t → Holds (base D N) m (dep π 0 t) (m (refAt N 1 π t)) u
@@ -61,6 +63,18 @@ module _ (D N : ℕ) where
     pub node-slot : (x b s : ℕ) (kids : ℕ → Tree ℕ) → Stands π (node x b s kids) t → (N ≤ x) × (x + 1 < N + N)
     unfolding Slots
     node-slot x b s kids p = let (low, high, below) = slots-at (node x b s kids) p in (low, high)
+
+  -- "A child is any of the sixteen words that is not 0."
+  pub filled-word : (m : Mem) (w r : ℕ) (t : Tree ℕ) → Holds (base D N) m w r t → filled t ≡ not (eqb r 0)
+  unfolding Holds
+  filled-word m w r empty g = rw (eq-eqb r 0 (sees D N m r none-there g))
+  filled-word m w r (leaf x k v) g =
+      let d : (x < N) × (r ≡ leafRef x) = subst (Decoded N r) ((sees D N m r (leaf-there x k v) g) .ref) (decoded N r) in
+      rw (ne-eqb r 0 (λ z. omega (arith, d .1)))
+  filled-word m w r (node x b s kids) g =
+      let p = sees D N m r (node-there x (g .0 .h) b (base D N .stored (g .0 .h) b s)) (g .0 .there) in
+      let d : (x - N + 1 < N) × (r ≡ nodeRef (x - N)) = subst (Decoded N r) (p .ref) (decoded N r) in
+      rw (ne-eqb r 0 (λ z. omega (arith, d .1)))
 
   -- words 0 and 1 belong to no slot that is reached
   pub slot-low : (m : Mem) (w r : ℕ) (t : Tree ℕ) (x : ℕ) → Holds (base D N) m w r t → 0 < mult x t → x < 2 * N

@@ -8,7 +8,7 @@ use native.Mathlib.Omega.{arith}
 use Rattle.digits.specs.Digits.{digitIn}
 use Rattle.digits.proofs.Digits.{digit-lt}
 use Rattle.pool.specs.Places.{leafWord, childWord, leafRef}
-use Rattle.tree.specs.Tree.{Tree, empty, leaf, node, upd, one, mult, Filled, On, sub, plug, dep, Stands, Agree, Leads, Good, GoodAt}
+use Rattle.tree.specs.Tree.{Tree, empty, leaf, node, upd, one, mult, Filled, On, here, sub, plug, dep, Stands, Agree, Leads, Good, GoodAt}
 use Rattle.tree.specs.Changes.{occurs, Adds}
 use Rattle.tree.specs.Shape.{leaf-there, Mem, Holds}
 use Rattle.tree.specs.Stores.{Store, run, Part}
@@ -18,7 +18,7 @@ use Rattle.tree.proofs.Stores.{Words, words-part, words-more, words-block, run-
 use Rattle.tree.proofs.Put.{adds-below, value-adds, leaf-adds}
 use Rattle.layout.specs.Layout.{own, base, Held, refAt}
 use Rattle.layout.specs.Operations.{store, leafStores, Puts}
-use Rattle.layout.proofs.Base.{ref-leaf, SeesLeaf, sees-leaf, leaf-seen, own-root, own-leaf}
+use Rattle.layout.proofs.Base.{ref-leaf, SeesLeaf, sees, leaf-seen, own-root, own-leaf}
 use Rattle.layout.proofs.Held.{held, ref-child, good-at, leaf-slot}
 use Rattle.layout.proofs.Changes.{kept, amended, switched}
 
@@ -98,7 +98,7 @@ module _ (D N : ℕ) (m : Mem) (t : Tree ℕ) (H : Held D N m t) where
     where
       value-changed : (r : ℕ) → base D N .view m r ≡ leaf-there x k v₀ → base D N .view (upd m (leafWord x + 1) v) r ≡ leaf-there x k v
       value-changed r e =
-          let s : SeesLeaf N m r x k v₀ = sees-leaf D N m r x k v₀ e in
+          let s : SeesLeaf N m r x k v₀ = sees D N m r (leaf-there x k v₀) e in
           leaf-seen D N (upd m (leafWord x + 1) v) r x k v (record {
             ref = s .ref;
             within = s .within;
@@ -127,8 +127,8 @@ module _ (D N : ℕ) (m : Mem) (t : Tree ℕ) (H : Held D N m t) where
 
     -- which is the root
     pub puts-root : t ≡ empty → Puts D N m t k v (leafStores z k v) (store 1 (leafRef z)) (z ∷ [])
-    unfolding refAt On sub dep
-    puts-root e = puts-leaf [] (record { on = tt; is = e }) (λ i h. absurd (omega arith))
+    unfolding refAt sub dep
+    puts-root e = puts-leaf [] (record { on = here; is = e }) (λ i h. absurd (omega arith))
 
     -- or the child, at k's digit, of a node whose keys begin as k
     pub puts-child : (ρ : List ℕ) (x b s : ℕ) (kids : ℕ → Tree ℕ) → Stands ρ (node x b s kids) t → Agree (digitIn D) b (digitIn D s) k
@@ -136,6 +136,6 @@ module _ (D N : ℕ) (m : Mem) (t : Tree ℕ) (H : Held D N m t) where
     puts-child ρ x b s kids p agree e =
         let c : ℕ = digitIn D k b in
         let C : Child (digitIn D) ρ c x b s kids t = child (digitIn D) ρ c x b s kids t (digit-lt D k b) p in
-        subst (λ i. Puts D N m t k v (leafStores z k v) (store i (leafRef z)) (z ∷ [])) (ref-child D N 1 ρ c x b s kids t p)
+        subst (λ i. Puts D N m t k v (leafStores z k v) (store i (leafRef z)) (z ∷ [])) (ref-child D N ρ c x b s kids t p)
         (puts-leaf (ρ ++ c ∷ []) (record { on = C .stands .on; is = C .stands .is ∙ e })
         (rw (C .dep-is 0, C .pre-is (λ i. 0)) (agree-down (digitIn D) b c s k agree refl)))

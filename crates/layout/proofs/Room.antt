@@ -6,7 +6,7 @@ use native.Mathlib.Omega.{arith}
 use Rattle.digits.specs.Digits.{digitIn}
 use Rattle.tree.specs.Tree.{Tree, sum, mult, leaves, nodes, Filled}
 use Rattle.tree.specs.Shape.{Mem}
-use Rattle.tree.proofs.Room.{Slots, count-leaves, count-nodes, fewer-nodes, free, full, at-most-all}
+use Rattle.tree.proofs.Room.{Slots, count-leaves, count-nodes, fewer-nodes, free, full, sum-le}
 use Rattle.layout.specs.Layout.{Held}
 use Rattle.layout.proofs.Base.{slots-held}
 
@@ -25,7 +25,7 @@ module _ (D N : ℕ) (m : Mem) (t : Tree ℕ) (H : Held D N m t) where
   nodes-fewer = fewer-nodes (digitIn D) D 0 (λ i. 0) t (H .good)
 
   pub leaves-fit : leaves t ≤ N
-  leaves-fit = omega (arith, leaves-counted, at-most-all (λ x. mult x t) (H .once) N)
+  leaves-fit = omega (arith, leaves-counted, sum-le (λ x. mult x t) (H .once) N)
 
   -- so there is room
   pub free-leaf : leaves t < N → (z : ℕ) × (z < N) × (mult z t ≡ 0)

@@ -4,10 +4,10 @@
 use mathlib.Core.Path.{_≡_, sym, ap, subst}
 use mathlib.Core.Logic.{_≢_}
 use Prim.Native.Nat.{ℕ, _+_, _≤_, _<_}
-use mathlib.Core.List.{List, [], _∷_}
+use mathlib.Core.List.{List}
 use native.Mathlib.Omega.{arith}
 use lib.Dec.{eqb}
-use Rattle.tree.specs.Tree.{Tree, empty, leaf, node, upd, sum, one, mult, On, sub, plug, dep, Stands}
+use Rattle.tree.specs.Tree.{Tree, empty, leaf, node, upd, sum, one, mult, On, here, down, sub, plug, dep, Stands}
 use Rattle.tree.specs.Shape.{View, none-there, leaf-there, node-there, bad, Mem, SameIn, Shape, Head, Holds}
 use Rattle.tree.proofs.Basics.{upd-case, one-at, sum-has, sum-two}
 use Rattle.tree.proofs.Places.{sub-mult}
@@ -62,21 +62,19 @@ module _ {A : Type 0} (S : Shape A) where
         → ((x : ℕ) → mult x (sub π t) < mult x t → SameIn (S .own) m m′ x)
         → ((r′ : ℕ) → Holds S m (dep π w t) r′ (sub π t) → Holds S m′ (dep π w t) r′ u)
         → Holds S m′ w r (plug π t u)
-    unfolding Holds mult On sub plug dep
-    graft m m′ [] w r t u o g e new = new r g
-    graft m m′ (c ∷ π) w r empty u o g e new = absurd o
-    graft m m′ (c ∷ π) w r (leaf x k v) u o g e new = absurd o
-    graft m m′ (c ∷ π) w r (node x b s kids) u o g e new =
-        let ex : SameIn (S .own) m m′ x = e x (omega (arith, one-at x, sub-mult π (kids c) x (o .1), sum-has 16 (λ i. mult x (kids i)) c (o .0))) in
-        let inner : Holds S m′ (b + 1) (S .kid m x c) (plug π (kids c) u)
-        = graft m m′ π (b + 1) (S .kid m x c) (kids c) u (o .1) (g .1 c (o .0))
-        (λ y h. e y (omega (arith, sum-has 16 (λ i. mult y (kids i)) c (o .0)))) new in (
+    unfolding Holds mult sub plug dep
+    graft m m′ π w r t u here g e new = new r g
+    graft m m′ π w r t u (down {c} {x} {b} {s} {kids} {π = ρ} l o) g e new =
+        let has : (y d : ℕ) → d < 16 → mult y (kids d) ≤ sum 16 (λ i. mult y (kids i)) = λ y d j. sum-has 16 (λ i. mult y (kids i)) d j in
+        let ex : SameIn (S .own) m m′ x = e x (omega (arith, one-at x, sub-mult ρ (kids c) x o, has x c l)) in
+        let inner : Holds S m′ (b + 1) (S .kid m x c) (plug ρ (kids c) u)
+        = graft m m′ ρ (b + 1) (S .kid m x c) (kids c) u o (g .1 c l) (λ y h. e y (omega (arith, has y c l))) new in (
           head-same m m′ w r x b s (g .0) ex,
-          λ d l.
-              rw (kid-same-of m m′ w r x b s d (g .0) l ex)
-              (upd-case (λ d. Holds S m′ (b + 1) (S .kid m x d)) kids c (plug π (kids c) u) d inner
-              (λ n. frame m m′ (b + 1) (S .kid m x d) (kids d) (g .1 d l)
-              (λ y h. e y (omega (arith, sub-mult π (kids c) y (o .1), sum-two 16 (λ i. mult y (kids i)) c d (o .0) l (λ z. n (sym z))))))),
+          λ d k.
+              rw (kid-same-of m m′ w r x b s d (g .0) k ex)
+              (upd-case (λ d. Holds S m′ (b + 1) (S .kid m x d)) kids c (plug ρ (kids c) u) d inner
+              (λ n. frame m m′ (b + 1) (S .kid m x d) (kids d) (g .1 d k)
+              (λ y h. e y (omega (arith, sub-mult ρ (kids c) y o, sum-two 16 (λ i. mult y (kids i)) c d l k (λ z. n (sym z))))))),
         )
 
     -- a header changes to one that is accepted, perhaps at another walk depth

@@ -11,9 +11,9 @@ use lib.Dec.{ltb}
 use borrow.Author.Tests.{ltb-true, ltb-false}
 use Rattle.digits.specs.Choice.{pick}
 use Rattle.digits.specs.Loops.{scan}
-use Rattle.tree.specs.Tree.{Tree, empty, leaf, node, upd, Filled, Two, On, sub, dep, pre, Agree, Good}
-use Rattle.tree.specs.Near.{filled, low, near, way}
-use Rattle.tree.proofs.Basics.{upd-at, true-not-false}
+use Rattle.tree.specs.Tree.{Tree, empty, leaf, node, upd, sum, one, Filled, Two, On, here, down, sub, dep, pre, Agree, Good}
+use Rattle.tree.specs.Near.{filled, children, low, near, way}
+use Rattle.tree.proofs.Basics.{upd-at, upd-off, upd-case, true-not-false, one-le, sum-two, sum-upd, sum-less, sum-some, tally-sum}
 use Rattle.tree.proofs.Places.{agree-up}
 
 -- ---- children
@@ -62,6 +62,87 @@ module _ {A : Type 0} where
   lowest kids g =
       let (x, y) = scan-finds 16 0 (λ c. filled (kids c)) (g .c) (omega arith) (omega (arith, g .c<)) (filled-true (kids (g .c)) (g .at-c)) in
       (omega arith, y)
+
+  -- ---- children counted
+  counts : (ℕ → Tree A) → ℕ → ℕ
+  counts kids c = one (filled (kids c))
+
+  children-sum : (kids : ℕ → Tree A) → children kids ≡ sum 16 (counts kids)
+  unfolding counts
+  children-sum kids = tally-sum 16 (λ c. filled (kids c))
+
+  counts-is : (kids : ℕ → Tree A) (c : ℕ) → 0 < counts kids c → Filled (kids c)
+  unfolding counts
+  counts-is kids c h = go (filled (kids c)) refl
+    where
+      go : (t : Bool) → filled (kids c) ≡ t → Filled (kids c)
+      go true e = filled-is (kids c) e
+      go false e = absurd (omega (arith, ap one e))
+
+  is-counted : (kids : ℕ → Tree A) (c : ℕ) → Filled (kids c) → counts kids c ≡ 1
+  unfolding counts
+  is-counted kids c f = ap one (filled-true (kids c) f)
+
+  counts-le : (kids : ℕ → Tree A) (c : ℕ) → counts kids c ≤ 1
+  unfolding counts
+  counts-le kids c = one-le (filled (kids c))
+
+  pub two-of : (kids : ℕ → Tree A) → 2 ≤ children kids → Two kids
+  two-of kids h = go (sum-some 16 (counts kids) (omega (arith, children-sum kids)))
+    where
+      more : (c d : ℕ) → 0 < upd (counts kids) c 0 d → (c ≢ d) × (0 < counts kids d)
+      more c d = upd-case (λ d x. 0 < x → (c ≢ d) × (0 < counts kids d)) (counts kids) c 0 d (λ z. absurd (omega arith)) (λ n z. (λ e. n (sym e), z))
+
+      go : (c : ℕ) × (c < 16) × (0 < counts kids c) → Two kids
+      go (c, lc, p) =
+          let (d, ld, q) = sum-some 16 (upd (counts kids) c 0) (omega (arith, children-sum kids, sum-less 16 (counts kids) c lc, counts-le kids c)) in
+          record { c = c; d = d; c< = lc; d< = ld; apart = (more c d q) .0; at-c = counts-is kids c p; at-d = counts-is kids d ((more c d q) .1) }
+
+  pub of-two : (kids : ℕ → Tree A) → Two kids → 2 ≤ children kids
+  of-two kids g =
+      omega (
+        arith,
+        children-sum kids,
+        sum-two 16 (counts kids) (g .c) (g .d) (g .c<) (g .d<) (g .apart),
+        is-counted kids (g .c) (g .at-c),
+        is-counted kids (g .d) (g .at-d),
+      )
+
+  -- a node of three keeps two
+  pub two-left : (kids : ℕ → Tree A) (c : ℕ) → c < 16 → 3 ≤ children kids → Two (upd kids c empty)
+  unfolding counts
+  two-left kids c l h =
+      two-of (upd kids c empty) (omega (
+        arith,
+        children-sum kids,
+        children-sum (upd kids c empty),
+        counts-le kids c,
+        sum-upd 16 (counts (upd kids c empty)) (counts kids) c l (λ i n. ap (λ t. one (filled t)) (upd-off kids c empty i n)),
+      ))
+
+  -- a node of two has no third
+  pub no-third : (kids : ℕ → Tree A) (c o : ℕ) → children kids ≡ 2 → c < 16 → o < 16 → c ≢ o → Filled (kids c) → Filled (kids o)
+      → (d : ℕ) → d < 16 → d ≢ c → d ≢ o → kids d ≡ empty
+  unfolding counts
+  no-third kids c o e lc lo apart fc fo d ld p q = go (filled (kids d)) refl
+    where
+      f : ℕ → ℕ
+      f = counts kids
+
+      go : (t : Bool) → filled (kids d) ≡ t → kids d ≡ empty
+      go false z = not-filled (kids d) z
+      go true z =
+          absurd (omega (
+            arith,
+            children-sum kids,
+            sum-less 16 f c lc,
+            sum-two 16 (upd f c 0) o d lo ld (λ y. q (sym y)),
+            upd-off f c 0 o (λ y. apart (sym y)),
+            upd-off f c 0 d p,
+            is-counted kids c fc,
+            is-counted kids o fo,
+            ap one z,
+          ))
 
 module _ (dig : ℕ → ℕ → ℕ) {A : Type 0} where
   -- what a put finds at its place: something to split, whose keys begin as k₂ past digit f and which does not branch before
@@ -118,10 +199,10 @@ module _ (dig : ℕ → ℕ → ℕ) {A : Type 0} where
     -- ---- the place of a put: its way leads to it
     pub placed : (w : ℕ) (q : ℕ → ℕ) (t : Tree A) (k f : ℕ) → Filled t → Good dig D w q t → w ≤ f → ((i : ℕ) → i < f → dig k i ≡ dig (near dig k t) i)
         → dig k f ≢ dig (near dig k t) f → Placed k (near dig k t) f w q t (way dig f k t)
-    unfolding near way Good On dep pre sub
+    unfolding near way Good dep pre sub
     placed w q empty k f fl g l same diff = absurd fl
     placed w q (leaf x k′ v) k f fl g l same diff = record {
-      on = tt;
+      on = here;
       deep = l;
       digits = λ i h. same i (omega arith) ∙ g i h;
       target = inl refl;
@@ -139,14 +220,14 @@ module _ (dig : ℕ → ℕ → ℕ) {A : Type 0} where
         kid-good : Good dig D (b + 1) (upd (dig s) b c) (kids c)
         kid-good = g .3 c (dl k b)
 
-        here : (t : Bool) → filled (kids c) ≡ t → ((i : ℕ) → i < f → dig k i ≡ dig (ks t) i) → dig k f ≢ dig (ks t) f → Agree dig b (dig s) (ks t)
+        target-here : (t : Bool) → filled (kids c) ≡ t → ((i : ℕ) → i < f → dig k i ≡ dig (ks t) i) → dig k f ≢ dig (ks t) f → Agree dig b (dig s) (ks t)
             → (f ≡ b) ⊎ (f < b) → Past f (ks t) (node x b s kids) ⊎ Gap f k (node x b s kids)
-        here t e sm d ag (inr h) = inl (h, ag)
-        here true e sm d ag (inl h) =
+        target-here t e sm d ag (inr h) = inl (h, ag)
+        target-here true e sm d ag (inl h) =
             let z : dig (near dig k (kids c)) b ≡ c
             = near-agrees (b + 1) (upd (dig s) b c) (kids c) k (filled-is (kids c) e) kid-good b (omega arith) ∙ upd-at (dig s) b c in
             absurd (d (rw h (sym z)))
-        here false e sm d ag (inl h) = inr (sym h, λ i l. sm i l ∙ ag i (omega arith), rw h (not-filled (kids c) e))
+        target-here false e sm d ag (inl h) = inr (sym h, λ i l. sm i l ∙ ag i (omega arith), rw h (not-filled (kids c) e))
 
         go : (Filled (kids c) → Good dig D (b + 1) (upd (dig s) b c) (kids c) → b + 1 ≤ f → ((i : ℕ) → i < f → dig k i ≡ dig (near dig k (kids c)) i)
             → dig k f ≢ dig (near dig k (kids c)) f → Placed k (near dig k (kids c)) f (b + 1) (upd (dig s) b c) (kids c) (way dig f k (kids c)))
@@ -156,13 +237,13 @@ module _ (dig : ℕ → ℕ → ℕ) {A : Type 0} where
         go ih true u true e sm d ag =
             let p : Placed k (near dig k (kids c)) f (b + 1) (upd (dig s) b c) (kids c) (way dig f k (kids c))
             = ih (filled-is (kids c) e) kid-good (omega (arith, ltb-true b f u)) sm d in
-            record { on = (dl k b, p .on); deep = p .deep; digits = p .digits; target = p .target }
+            record { on = down {kids = kids} (dl k b) (p .on); deep = p .deep; digits = p .digits; target = p .target }
         go ih true u false e sm d ag =
             absurd (true-not-false (ap (λ i. filled (kids i)) (sm b (ltb-true b f u)) ∙ low-node w q x b s kids g) e)
         go ih false u t e sm d ag =
             record {
-              on = tt;
+              on = here;
               deep = l;
               digits = λ i h. sm i (omega arith) ∙ ag i (omega arith) ∙ g .2 i h;
-              target = here t e sm d ag (eq-or-lt-of-le (ltb-false b f u));
+              target = target-here t e sm d ag (eq-or-lt-of-le (ltb-false b f u));
             }

@@ -29,6 +29,11 @@ pub data Tree (A : Type 0) : Type 0 where
   leaf : ℕ → ℕ → A → Tree A
   node : ℕ → ℕ → ℕ → (ℕ → Tree A) → Tree A
 
+-- A place in a tree is the list of the digits that lead to it.
+pub data On {A : Type 0} : List ℕ → Tree A → Type 0 where
+  here : {t : Tree A} → On [] t
+  down : {c x b s : ℕ} {kids : ℕ → Tree A} {π : List ℕ} → c < 16 → On π (kids c) → On (c ∷ π) (node x b s kids)
+
 module _ {A : Type 0} where
   abbrev pub Filled : Tree A → Type 0
   Filled empty = ⊥
@@ -51,13 +56,6 @@ module _ {A : Type 0} where
   nodes empty = 0
   nodes (leaf x k v) = 0
   nodes (node x b s kids) = 1 + sum 16 (λ c. nodes (kids c))
-
-  -- a place in a tree is the list of the digits that lead to it
-  unfoldable pub On : List ℕ → Tree A → Type 0
-  On [] t = Unit {0}
-  On (c ∷ π) empty = ⊥
-  On (c ∷ π) (leaf x k v) = ⊥
-  On (c ∷ π) (node x b s kids) = (c < 16) × On π (kids c)
 
   -- what stands at a place
   unfoldable pub sub : List ℕ → Tree A → Tree A
