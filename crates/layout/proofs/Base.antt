@@ -7,12 +7,14 @@ use native.Mathlib.Omega.{arith}
 use lib.Dec.{eqb, ltb, leb}
 use borrow.Author.Tests.{ltb-true, leb-false, eqb-true, eqb-false, lt-ltb, le-ltb, le-leb, lt-leb, ne-eqb}
 use Rattle.digits.specs.Choice.{pick}
+use Rattle.digits.specs.Digits.{digitIn}
 use Rattle.digits.specs.Headers.{depthOf, lengthOf}
+use Rattle.digits.proofs.Headers.{stored-cong}
 use Rattle.pool.specs.Places.{leafWord, nodeWord, childWord, leafRef, nodeRef}
 use Rattle.pool.specs.Refs.{refOf}
 use Rattle.pool.specs.declared.Ref.{Ref}
 use Rattle.pool.specs.declared.Ref.the-variants.{Empty, Leaf, Node, Bad}
-use Rattle.tree.specs.Tree.{Tree, empty, leaf, node}
+use Rattle.tree.specs.Tree.{Tree, empty, leaf, node, Agree}
 use Rattle.tree.specs.Shape.{View, none-there, leaf-there, node-there, bad, Mem, Holds}
 use Rattle.tree.proofs.Frame.{Shows, Lawful}
 use Rattle.tree.proofs.Room.{Slots}
@@ -130,6 +132,11 @@ module _ (D N : ℕ) (m : Mem) (r : ℕ) where
 pub none-seen : (D N : ℕ) (m : Mem) → base D N .view m 0 ≡ none-there
 unfolding base refView
 none-seen D N m = rw (ref-empty N)
+
+-- keys that begin alike have the same stored digits
+pub stored-decided : (D N h b s s′ : ℕ) → Agree (digitIn D) b (digitIn D s) s′ → base D N .stored h b s ≡ base D N .stored h b s′
+unfolding base
+stored-decided D N h b s s′ a = stored-cong D 12 h (b - h) s s′ (λ i l. sym (a (h + i) (omega arith)))
 
 -- ---- a slot's words decide what it shows
 -- the words of the node in slot x

@@ -9,7 +9,7 @@ use lib.Dec.{eqb}
 use borrow.Author.Tests.{lt-ltb}
 use Rattle.digits.specs.Digits.{digitIn}
 use Rattle.digits.specs.Headers.{storedIn, headerIn}
-use Rattle.digits.proofs.Headers.{depth-of-header, length-of-header, digits-of-header, stored-cong}
+use Rattle.digits.proofs.Headers.{depth-of-header, length-of-header, digits-of-header}
 use Rattle.pool.specs.Places.{nodeWord, childWord}
 use Rattle.tree.specs.Tree.{Tree, node, upd, sum, one, mult, sub, dep, Stands, Agree, Good}
 use Rattle.tree.specs.Shape.{node-there, Mem, Holds}
@@ -20,7 +20,7 @@ use Rattle.tree.proofs.Frame.{rehead}
 use Rattle.tree.proofs.Stores.{part-one}
 use Rattle.layout.specs.Layout.{own, headView, base, Held}
 use Rattle.layout.specs.Operations.{headerStore}
-use Rattle.layout.proofs.Base.{sees, node-seen, own-slot, base-lawful}
+use Rattle.layout.proofs.Base.{sees, node-seen, stored-decided, own-slot, base-lawful}
 use Rattle.layout.proofs.Held.{held, good-at, node-slot}
 use Rattle.layout.proofs.Changes.{amended}
 
@@ -60,7 +60,7 @@ module _ (D N : ℕ) (d : D ≤ 256) where
           head =
               ap (headView D x) (upd-at m i v)
               ∙ header-view D x h b s′ d l k
-              ∙ ap (node-there x h b) (stored-cong D 12 h (b - h) s′ s (λ j o. agree (h + j) (omega arith)));
+              ∙ ap (node-there x h b) (sym (stored-decided D N h b s s′ agree));
         });
       })
       (λ c o. upd-off m i v (childWord N (x - N) c) (λ z. omega arith))

@@ -1,6 +1,6 @@
 -- What is held at the places of a held tree, and in which slots. That no slot is reached twice follows from the rest.
 -- Rests on the layout's laws. Assumes nothing.
-use mathlib.Core.Path.{_≡_, subst}
+use mathlib.Core.Path.{_≡_, sym, ap, _∙_, subst}
 use mathlib.Core.Logic.{_⊎_, inl, inr}
 use Prim.Native.Nat.{ℕ, _+_, _-_, _*_, _≤_, _<_}
 use mathlib.Core.List.{List, [], _∷_, _++_}
@@ -11,15 +11,18 @@ use borrow.Author.Tests.{eq-eqb, ne-eqb}
 use Rattle.digits.specs.Digits.{digitIn}
 use Rattle.digits.proofs.Digits.{digit-lt}
 use Rattle.pool.specs.Places.{childWord, leafRef, nodeRef}
-use Rattle.tree.specs.Tree.{Tree, empty, leaf, node, mult, On, here, down, sub, dep, Stands, Good, GoodAt}
-use Rattle.tree.specs.Shape.{none-there, leaf-there, node-there, Mem, Holds}
+use Rattle.tree.specs.Tree.{Tree, empty, leaf, node, mult, On, here, down, sub, dep, Stands, find, Good, GoodAt}
+use Rattle.tree.specs.Shape.{none-there, leaf-there, node-there, Mem, Holds, walk, answer}
 use Rattle.tree.specs.Near.{filled}
+use Rattle.tree.specs.Grow.{grow}
 use Rattle.tree.proofs.Basics.{less?}
 use Rattle.tree.proofs.Places.{good-sub}
 use Rattle.tree.proofs.Once.{once}
+use Rattle.tree.proofs.Walk.{answer-find, walk-tree}
+use Rattle.tree.proofs.Grow.{regrow}
 use Rattle.tree.proofs.Room.{Slots, slots-out}
 use Rattle.layout.specs.Layout.{base, Held, refAt}
-use Rattle.layout.proofs.Base.{Decoded, decoded, sees, base-lawful, slots-held}
+use Rattle.layout.proofs.Base.{Decoded, decoded, sees, stored-decided, base-lawful, slots-held}
 
 module _ (D N : ℕ) where
   pub once-follows : (m : Mem) (q : ℕ → ℕ) (t : Tree ℕ) → Holds (base D N) m 0 (m 1) t → Good (digitIn D) D 0 q t → (x : ℕ) → mult x t ≤ 1
@@ -83,3 +86,20 @@ module _ (D N : ℕ) where
       go : (x < 2 * N) ⊎ (2 * N ≤ x) → x < 2 * N
       go (inl l) = l
       go (inr l) = absurd (omega (arith, slots-out N t (slots-held D N m w r t g) x (omega arith)))
+
+-- ---- what is held is decided by the memory
+module _ (D N : ℕ) (m : Mem) where
+  pub find-decided : (t t′ : Tree ℕ) → Held D N m t → Held D N m t′ → (k : ℕ) → find (digitIn D) k t ≡ find (digitIn D) k t′
+  find-decided t t′ H H′ k = sym (walked t H) ∙ walked t′ H′
+    where
+      walked : (t : Tree ℕ) → Held D N m t → answer k (walk (base D N) (digitIn D) (D + 1) m 0 (m 1) k) ≡ find (digitIn D) k t
+      walked t H =
+          ap (answer k) (walk-tree (digitIn D) (base D N) D (digit-lt D) (D + 1) m 0 (m 1) k (λ i. 0) t (H .holds) (H .good) (omega arith) (omega arith))
+          ∙ answer-find (digitIn D) t k
+
+  pub mult-decided : (t t′ : Tree ℕ) → Held D N m t → Held D N m t′ → (x : ℕ) → mult x t ≡ mult x t′
+  mult-decided t t′ H H′ x = sym (grown t H) ∙ grown t′ H′
+    where
+      grown : (t : Tree ℕ) → Held D N m t → mult x (grow (base D N) (D + 1) m (m 1)) ≡ mult x t
+      grown t H =
+          (regrow (base D N) (digitIn D) (digit-lt D) D (stored-decided D N) (D + 1) m 0 (m 1) (λ i. 0) t (H .holds) (H .good) (omega arith) (omega arith)) .count x
