@@ -1,5 +1,5 @@
 -- The layout of document 01 is lawful: what its references show, which slot a word belongs to, and that a slot's words decide what it shows.
--- Assumes nothing.
+-- Rests on the definitions of references and places. Assumes nothing.
 use mathlib.Core.Path.{_≡_, refl, sym, ap, _∙_, subst}
 use Prim.Native.Nat.{ℕ, _+_, _-_, _*_, _%_, _^_, _≤_, _<_}
 use mathlib.Core.Bool.{Bool, true, false}

@@ -94,7 +94,9 @@ module _ (D N : ℕ) (m : Mem) (t : Tree ℕ) (H : Held D N m t) where
         → Holds (base D N) (upd m (refAt N 1 π t) r) 0 (upd m (refAt N 1 π t) r 1) (plug π t u)
     unfolding refAt plug dep
     switched π on new apart =
-        by-place (λ π. Holds (base D N) (upd m (refAt N 1 π t) r) (dep π 0 t) r u → Holds (base D N) (upd m (refAt N 1 π t) r) 0 (upd m (refAt N 1 π t) r 1) (plug π t u)) t
+        by-place
+        (λ π. Holds (base D N) (upd m (refAt N 1 π t) r) (dep π 0 t) r u
+        → Holds (base D N) (upd m (refAt N 1 π t) r) 0 (upd m (refAt N 1 π t) r 1) (plug π t u)) t
         (λ g. rw (upd-at m 1 r) g)
         (λ ρ c x b s kids lc p g.
         let q : refAt N 1 (ρ ++ c ∷ []) t ≡ childWord N (x - N) c = ref-child D N ρ c x b s kids t p in

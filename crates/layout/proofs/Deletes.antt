@@ -84,19 +84,21 @@ module _ (D N : ℕ) (m : Mem) (t : Tree ℕ) (H : Held D N m t) where
       }
 
       -- which is a leaf
-      pub drops-bypass : Drops D N m t (ρ ++ c ∷ []) switch [] (x ∷ [])
+      pub drops-bypass : Drops D N m t (ρ ++ c ∷ []) (store (refAt N 1 ρ t) (m (childWord N (x - N) o))) [] (x ∷ [])
       unfolding run
       drops-bypass = bypasses [] (λ m′ H′ τ q. rw (part-nil τ q) H′)
 
       -- or a node, whose header comes after the switch: the node is stale till then
-      pub drops-bypass-node : D ≤ 256 → (y b′ s₂ : ℕ) (kids′ : ℕ → Tree ℕ) (s′ : ℕ) → kids o ≡ node y b′ s₂ kids′ → Agree (digitIn D) b′ (digitIn D s₂) s′
-          → Drops D N m t (ρ ++ c ∷ []) switch (headerStore D N (y - N) (dep ρ 0 t) b′ s′ ∷ []) (x ∷ [])
+      pub drops-bypass-node : D ≤ 256 → (y b′ s₂ : ℕ) (kids′ : ℕ → Tree ℕ) (s′ : ℕ) → kids o ≡ node y b′ s₂ kids′
+          → Agree (digitIn D) b′ (digitIn D s₂) s′
+          → Drops D N m t (ρ ++ c ∷ []) (store (refAt N 1 ρ t) (m (childWord N (x - N) o))) (headerStore D N (y - N) (dep ρ 0 t) b′ s′ ∷ []) (x ∷ [])
       unfolding Good
       drops-bypass-node d y b′ s₂ kids′ s′ e agree =
           let below : b + 1 ≤ b′ = (subst (Good (digitIn D) D (b + 1) (upd (digitIn D s) b o)) e (good .3 o lo)) .0 in
           let there : Stands ρ (kids o) left = plug-stands ρ t (kids o) (p .on) in
           bypasses (headerStore D N (y - N) (dep ρ 0 t) b′ s′ ∷ [])
-          (λ m′ H′. header-kept D N d m′ left H′ ρ y b′ s₂ kids′ (record { on = there .on; is = there .is ∙ e }) (dep ρ 0 t) s′ (omega (arith, good .0)) agree
+          (λ m′ H′.
+          header-kept D N d m′ left H′ ρ y b′ s₂ kids′ (record { on = there .on; is = there .is ∙ e }) (dep ρ 0 t) s′ (omega (arith, good .0)) agree
           (omega (arith, plug-dep ρ 0 t (kids o) (p .on))))
 
   -- ---- a leaf dropped is its key deleted

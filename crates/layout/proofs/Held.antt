@@ -22,7 +22,7 @@ use Rattle.tree.proofs.Walk.{answer-find, walk-tree}
 use Rattle.tree.proofs.Grow.{regrow}
 use Rattle.tree.proofs.Room.{Slots, slots-out}
 use Rattle.layout.specs.Layout.{base, Held, refAt}
-use Rattle.layout.proofs.Base.{Decoded, decoded, sees, stored-decided, base-lawful, slots-held}
+use Rattle.layout.proofs.Base.{Decoded, decoded, sees, none-seen, stored-decided, base-lawful, slots-held}
 
 module _ (D N : ℕ) where
   pub once-follows : (m : Mem) (q : ℕ → ℕ) (t : Tree ℕ) → Holds (base D N) m 0 (m 1) t → Good (digitIn D) D 0 q t → (x : ℕ) → mult x t ≤ 1
@@ -30,6 +30,11 @@ module _ (D N : ℕ) where
 
   pub held : (m : Mem) (t : Tree ℕ) → Holds (base D N) m 0 (m 1) t → Good (digitIn D) D 0 (λ i. 0) t → Held D N m t
   held m t h g = record { holds = h; good = g; once = once-follows m (λ i. 0) t h g }
+
+  -- a pool whose root reference is 0 holds nothing
+  pub held-empty : (m : Mem) → m 1 ≡ 0 → Held D N m empty
+  unfolding Holds Good
+  held-empty m e = held m empty (rw e (none-seen D N m)) tt
 
   -- ---- places
   pub sub-holds : (m : Mem) (π : List ℕ) (w i : ℕ) (t : Tree ℕ) → On π t → Holds (base D N) m w (m i) t
@@ -102,4 +107,5 @@ module _ (D N : ℕ) (m : Mem) where
     where
       grown : (t : Tree ℕ) → Held D N m t → mult x (grow (base D N) (D + 1) m (m 1)) ≡ mult x t
       grown t H =
-          (regrow (base D N) (digitIn D) (digit-lt D) D (stored-decided D N) (D + 1) m 0 (m 1) (λ i. 0) t (H .holds) (H .good) (omega arith) (omega arith)) .count x
+          (regrow (base D N) (digitIn D) (digit-lt D) D (stored-decided D N) (D + 1) m 0 (m 1) (λ i. 0) t (H .holds) (H .good) (omega arith) (omega arith))
+          .count x

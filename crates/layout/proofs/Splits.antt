@@ -14,14 +14,14 @@ use Rattle.tree.specs.Tree.{Tree, leaf, node, upd, mult, On, sub, dep, pre, Sta
 use Rattle.tree.specs.Shape.{leaf-there, Mem, Holds}
 use Rattle.tree.specs.Stores.{Store, run, block, tab, Part}
 use Rattle.tree.proofs.Basics.{upd-at, upd-off, one-at}
-use Rattle.tree.proofs.Places.{sub-mult, good-sub}
+use Rattle.tree.proofs.Places.{sub-mult}
 use Rattle.tree.proofs.Near.{Past}
 use Rattle.tree.proofs.Stores.{Words, words-more, words-append, words-block, run-off, run-append, block-off, block-first, block-at, length-tab, tab-at, part-all, part-nil, part-append}
 use Rattle.tree.proofs.Put.{past-filled, past-good, splitTree, split-holds, split-filled, split-good, split-adds}
 use Rattle.layout.specs.Layout.{own, headView, base, Held, refAt}
 use Rattle.layout.specs.Operations.{store, leafStores, headerStore, splitChildren, splitStores, Puts}
 use Rattle.layout.proofs.Base.{ref-node, SeesNode, node-seen, none-seen, own-leaf, own-node, own-slot}
-use Rattle.layout.proofs.Held.{sub-holds, holds-at, node-slot}
+use Rattle.layout.proofs.Held.{sub-holds, holds-at, good-at, node-slot}
 use Rattle.layout.proofs.Changes.{ref-owner}
 use Rattle.layout.proofs.Headers.{header-view, header-at, header-kept}
 use Rattle.layout.proofs.Puts.{Fresh, fresh-kept, leaf-fresh, leaf-made, puts}
@@ -29,7 +29,8 @@ use Rattle.layout.proofs.Puts.{Fresh, fresh-kept, leaf-fresh, leaf-made
 module _ (D N : ℕ) (m : Mem) (t : Tree ℕ) (H : Held D N m t) (d : D ≤ 256) (cap : N ≤ 1024)
     (k v z : ℕ) (zn : z < N) (zf : mult z t ≡ 0) (j : ℕ) (jn : j + 1 < N) (jf : mult (N + j) t ≡ 0)
     (π : List ℕ) (on : On π t) (leads : Leads (digitIn D) π t k)
-    (k₂ f : ℕ) (fD : f < D) (deep : dep π 0 t ≤ f) (before : (i : ℕ) → i < f → digitIn D k i ≡ digitIn D k₂ i) (differ : digitIn D k f ≢ digitIn D k₂ f) where
+    (k₂ f : ℕ) (fD : f < D) (deep : dep π 0 t ≤ f) (before : (i : ℕ) → i < f → digitIn D k i ≡ digitIn D k₂ i)
+    (differ : digitIn D k f ≢ digitIn D k₂ f) where
   -- the walk depth and the reference of the place, and the two digits
   abbrev w : ℕ
   w = dep π 0 t
@@ -156,7 +157,8 @@ module _ (D N : ℕ) (m : Mem) (t : Tree ℕ) (H : Held D N m t) (d : D ≤ 256)
 
     target-good : Good (digitIn D) D (f + 1) (upd (digitIn D k) f c) (sub π t)
     target-good =
-        past-good (digitIn D) D w f k k₂ (pre (digitIn D) π (λ i. 0) t) (sub π t) (good-sub (digitIn D) D π 0 (λ i. 0) t on (H .good)) past (λ i h. sym (before i h))
+        past-good (digitIn D) D w f k k₂ (pre (digitIn D) π (λ i. 0) t) (sub π t)
+        (good-at D N m t H π (sub π t) (record { on = on; is = refl })) past (λ i h. sym (before i h))
 
     new-good : GoodAt (digitIn D) D π t new
     new-good =
@@ -170,19 +172,25 @@ module _ (D N : ℕ) (m : Mem) (t : Tree ℕ) (H : Held D N m t) (d : D ≤ 256)
         (split-adds (digitIn D) (digit-lt D) (N + j) f z k v c (digit-lt D k₂ f) differ (sub π t) D target-good)
 
   -- of a leaf, which is held at every walk depth
-  pub puts-split-leaf : (x v₂ : ℕ) → sub π t ≡ leaf x k₂ v₂ → Puts D N m t k v (splitStores D N w f k v k₂ z j (m q) []) (store q (nodeRef j)) (z ∷ (N + j) ∷ [])
+  pub puts-split-leaf : (x v₂ : ℕ) → sub π t ≡ leaf x k₂ v₂
+      → Puts D N m t k v (splitStores D N (dep π 0 t) f k v k₂ z j (m (refAt N 1 π t)) []) (store (refAt N 1 π t) (nodeRef j)) (z ∷ (N + j) ∷ [])
   unfolding run Holds Words
   puts-split-leaf x v₂ is =
-      splits (rw is refl) [] (λ m′ H′ τ p. rw (part-nil τ p) H′) (λ m′ H′. rw is (holds-at D N m′ t H′ π (leaf x k₂ v₂) (record { on = on; is = is }))) tt
+      splits (rw is refl) []
+      (λ m′ H′ τ p. rw (part-nil τ p) H′)
+      (λ m′ H′. rw is (holds-at D N m′ t H′ π (leaf x k₂ v₂) (record { on = on; is = is })))
+      tt
 
   -- of a node, whose own header comes before the switch: the node is stale till then
   pub puts-split-node : (x b s : ℕ) (kids : ℕ → Tree ℕ) → sub π t ≡ node x b s kids → f < b → Agree (digitIn D) b (digitIn D s) k₂
-      → Puts D N m t k v (splitStores D N w f k v k₂ z j (m q) (headerStore D N (x - N) (f + 1) b k₂ ∷ [])) (store q (nodeRef j)) (z ∷ (N + j) ∷ [])
+      → Puts D N m t k v (splitStores D N (dep π 0 t) f k v k₂ z j (m (refAt N 1 π t)) (headerStore D N (x - N) (f + 1) b k₂ ∷ []))
+      (store (refAt N 1 π t) (nodeRef j)) (z ∷ (N + j) ∷ [])
   unfolding run Words mult
   puts-split-node x b s kids is fb agree =
       let p : Stands π (node x b s kids) t = record { on = on; is = is } in
       let own-x : own N (nodeWord N (x - N)) ≡ x = own-slot N x (nodeWord N (x - N)) ((node-slot D N m t H π x b s kids p) .0) (omega arith) (omega arith) in
       splits (rw is (fb, agree)) (headerStore D N (x - N) (f + 1) b k₂ ∷ [])
       (λ m′ H′ τ o. header-kept D N d m′ t H′ π x b s kids p (f + 1) k₂ (omega arith) agree (omega arith) τ o)
-      (λ m′ H′. header-at D N d m′ t H′ π x b s kids p (f + 1) k₂ (omega arith) agree (f + 1) (m′ q) (omega arith) (sub-holds D N m′ π 0 1 t on (H′ .holds)))
+      (λ m′ H′.
+      header-at D N d m′ t H′ π x b s kids p (f + 1) k₂ (omega arith) agree (f + 1) (m′ q) (omega arith) (sub-holds D N m′ π 0 1 t on (H′ .holds)))
       (rw own-x (omega (arith, ap (mult x) is, one-at x, sub-mult π t x on)), tt)

@@ -1,5 +1,4 @@
--- Tests that carry their proof, updates, and sums.
--- Assumes nothing.
+-- Tests that carry their proof, updates, and sums. Rests on arithmetic alone. Assumes nothing.
 use mathlib.Core.Path.{_≡_, refl, sym, ap, _∙_}
 use mathlib.Core.Logic.{_≢_, _⊎_, inl, inr}
 use Prim.Native.Nat.{ℕ, zero, suc, _+_, _≤_, _<_}

@@ -1,5 +1,5 @@
 -- The trees that a delete makes: nothing left at a place, which is the root or the child of a node of three or more; a node of two bypassed.
--- Assumes nothing.
+-- Rests on replacing at a place, and on counted children. Assumes nothing.
 use mathlib.Core.Path.{_≡_, refl, sym, ap, _∙_, subst}
 use mathlib.Core.Logic.{_≢_}
 use mathlib.Core.Option.{Option, none, some}

@@ -1,6 +1,5 @@
 -- What a change of memory does to a tree that is held: nothing outside its slots; a subtree replaced under its reference; a header rewritten;
--- one child of a node replaced; and a reference met earlier.
--- Assumes nothing.
+-- one child of a node replaced; and a reference met earlier. Rests on the counts of places. Assumes nothing.
 use mathlib.Core.Path.{_≡_, sym, ap, subst}
 use mathlib.Core.Logic.{_≢_}
 use Prim.Native.Nat.{ℕ, _+_, _≤_, _<_}

@@ -1,5 +1,4 @@
--- A pool that holds a good tree holds the tree that it is read as.
--- Assumes nothing.
+-- A pool that holds a good tree holds the tree that it is read as. Rests on the lowest leaf. Assumes nothing.
 use mathlib.Core.Path.{_≡_, refl, sym, ap, _∙_}
 use Prim.Native.Nat.{ℕ, zero, suc, _+_, _≤_, _<_}
 use native.Mathlib.Omega.{arith}

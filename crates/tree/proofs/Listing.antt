@@ -1,5 +1,5 @@
 -- A good tree's entries rise, are as many as its leaves, and are found as the walk finds them. Two rising lists that answer alike are equal.
--- Assumes nothing.
+-- Rests on the digits of places. Assumes nothing.
 use mathlib.Core.Path.{_≡_, refl, sym, ap, _∙_}
 use mathlib.Core.Logic.{_≢_, _⊎_, inl, inr}
 use Prim.Native.Nat.{ℕ, zero, suc, _+_, _≤_, _<_}

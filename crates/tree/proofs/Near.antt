@@ -1,20 +1,20 @@
--- Children, the lowest leaf, and the place that a put finds.
--- Assumes nothing.
-use mathlib.Core.Path.{_≡_, refl, sym, ap, _∙_}
+-- Children, the lowest leaf, and the place that a put finds. Rests on the digits of places. Assumes nothing.
+use mathlib.Core.Path.{_≡_, refl, sym, ap, _∙_, subst}
 use mathlib.Core.Logic.{_≢_, _⊎_, inl, inr}
 use Prim.Native.Nat.{ℕ, zero, suc, _+_, _≤_, _<_}
 use mathlib.Core.Bool.{Bool, true, false}
+use mathlib.Core.Option.{Option, none, some}
 use mathlib.Core.List.{List, [], _∷_}
 use native.Mathlib.Omega.{arith}
 use native.Mathlib.Nat.{eq-or-lt-of-le}
 use lib.Dec.{ltb}
-use borrow.Author.Tests.{ltb-true, ltb-false}
+use borrow.Author.Tests.{ltb-true, ltb-false, lt-ltb, eq-eqb}
 use Rattle.digits.specs.Choice.{pick}
 use Rattle.digits.specs.Loops.{scan}
-use Rattle.tree.specs.Tree.{Tree, empty, leaf, node, upd, sum, one, Filled, Two, On, here, down, sub, dep, pre, Agree, Good}
+use Rattle.tree.specs.Tree.{Tree, empty, leaf, node, upd, sum, one, Filled, Two, On, here, down, sub, dep, Stands, pre, Agree, Leads, find, Good, GoodAt}
 use Rattle.tree.specs.Near.{filled, children, low, near, way}
-use Rattle.tree.proofs.Basics.{upd-at, upd-off, upd-case, true-not-false, one-le, sum-two, sum-upd, sum-less, sum-some, tally-sum}
-use Rattle.tree.proofs.Places.{agree-up}
+use Rattle.tree.proofs.Basics.{Same?, same, other, same?, upd-at, upd-off, upd-case, true-not-false, one-le, sum-two, sum-upd, sum-less, sum-some, tally-sum}
+use Rattle.tree.proofs.Places.{plug-sub, agree-up, find-there, good-sub}
 
 -- ---- children
 -- a scan that must succeed
@@ -191,24 +191,47 @@ module _ (dig : ℕ → ℕ → ℕ) {A : Type 0} where
     near-agrees w q (node x b s kids) k f g =
         go (near-agrees (b + 1) (upd (dig s) b (dig k b)) (kids (dig k b)) k) (filled (kids (dig k b))) refl
       where
-        go : (Filled (kids (dig k b)) → Good dig D (b + 1) (upd (dig s) b (dig k b)) (kids (dig k b)) → Agree dig (b + 1) (upd (dig s) b (dig k b)) (near dig k (kids (dig k b))))
+        go : (Filled (kids (dig k b)) → Good dig D (b + 1) (upd (dig s) b (dig k b)) (kids (dig k b))
+            → Agree dig (b + 1) (upd (dig s) b (dig k b)) (near dig k (kids (dig k b))))
             → (t : Bool) → filled (kids (dig k b)) ≡ t → Agree dig w q (pick t (near dig k (kids (dig k b))) (low (node x b s kids)))
         go ih true e = agree-up dig w b (dig k b) s q (near dig k (kids (dig k b))) (g .0) (g .2) (ih (filled-is (kids (dig k b)) e) (g .3 (dig k b) (dl k b)))
         go ih false e = low-agrees w q (node x b s kids) tt g
+
+    -- ---- the place of a key: a leaf of the tree is found, and what is found stands at the end of its key's way
+    pub stands-found : (x k : ℕ) (v : A) (π : List ℕ) (t : Tree A) → Good dig D 0 (λ i. 0) t → Stands π (leaf x k v) t → find dig k t ≡ some v
+    unfolding find Good
+    stands-found x k v π t g p =
+        let leads : Leads dig π t k = subst (GoodAt dig D π t) (p .is) (good-sub dig D π 0 (λ i. 0) t (p .on) g) in
+        ap (find dig k) (sym (plug-sub π t (p .on)))
+        ∙ find-there dig D π 0 (λ i. 0) t (sub π t) k (p .on) g leads
+        ∙ rw (p .is, eq-eqb k k refl)
+
+    pub found-stands : (w : ℕ) (q : ℕ → ℕ) (t : Tree A) (k : ℕ) (v : A) → Good dig D w q t → find dig k t ≡ some v
+        → (x : ℕ) × Stands (way dig D k t) (leaf x k v) t
+    unfolding find Good way sub
+    found-stands w q empty k v g e = let z : _≡_ {A = ℕ} 0 1 = cc in absurd (omega arith)
+    found-stands w q (leaf x k′ v′) k v g e = go (same? k k′)
+      where
+        go : Same? k k′ → (y : ℕ) × Stands [] (leaf y k v) (leaf x k′ v′)
+        go (same p z) = let y : some v′ ≡ some v = rw z at e in (x, record { on = here; is = cc })
+        go (other p z) = let y : _≡_ {A = Option A} none (some v) = rw z at e in let o : _≡_ {A = ℕ} 0 1 = cc in absurd (omega arith)
+    found-stands w q (node x b s kids) k v g e =
+        let (y, p) = found-stands (b + 1) (upd (dig s) b (dig k b)) (kids (dig k b)) k v (g .3 (dig k b) (dl k b)) e in
+        (y, rw (lt-ltb b D (g .1)) (record { on = down {kids = kids} (dl k b) (p .on); is = p .is }))
 
     -- ---- the place of a put: its way leads to it
     pub placed : (w : ℕ) (q : ℕ → ℕ) (t : Tree A) (k f : ℕ) → Filled t → Good dig D w q t → w ≤ f → ((i : ℕ) → i < f → dig k i ≡ dig (near dig k t) i)
         → dig k f ≢ dig (near dig k t) f → Placed k (near dig k t) f w q t (way dig f k t)
     unfolding near way Good dep pre sub
-    placed w q empty k f fl g l same diff = absurd fl
-    placed w q (leaf x k′ v) k f fl g l same diff = record {
+    placed w q empty k f fl g l sm d = absurd fl
+    placed w q (leaf x k′ v) k f fl g l sm d = record {
       on = here;
       deep = l;
-      digits = λ i h. same i (omega arith) ∙ g i h;
+      digits = λ i h. sm i (omega arith) ∙ g i h;
       target = inl refl;
     }
-    placed w q (node x b s kids) k f fl g l same diff =
-        go (placed (b + 1) (upd (dig s) b (dig k b)) (kids (dig k b)) k f) (ltb b f) refl (filled (kids (dig k b))) refl same diff
+    placed w q (node x b s kids) k f fl g l sm d =
+        go (placed (b + 1) (upd (dig s) b (dig k b)) (kids (dig k b)) k f) (ltb b f) refl (filled (kids (dig k b))) refl sm d
         (near-agrees b (dig s) (node x b s kids) k tt (omega arith, g .1, λ i h. refl, g .3, g .4))
       where
         c : ℕ

@@ -1,5 +1,5 @@
--- No slot is reached twice in a tree that is held and good: two ways to one slot part at a node, and the lowest leaf below would have two digits there.
--- Assumes nothing.
+-- No slot is reached twice in a tree that is held and good: two ways to one slot part at a node, and the lowest key below it would have two digits
+-- there. Rests on the frame and on the lowest leaf. Assumes nothing.
 use mathlib.Core.Path.{_≡_, refl, sym, ap, _∙_, subst}
 use mathlib.Core.Logic.{_≢_, _⊎_, inl, inr}
 use Prim.Native.Nat.{ℕ, _+_, _≤_, _<_}
@@ -83,7 +83,8 @@ module _ {A : Type 0} (S : Shape A) (L : Lawful S) (dig : ℕ → ℕ → ℕ) (
   -- a slot that is reached in two ways has a key below that comes by both
   key-below : (x w w′ : ℕ) (q q′ : ℕ → ℕ) → Reached x w q → Reached x w′ q′ → (k : ℕ) × Agree dig w q k × Agree dig w′ q′ k
   key-below x w w′ q q′ a b =
-      let h : Holds S m (b .at) (a .ref) (b .tree) = subst (λ r. Holds S m (b .at) r (b .tree)) (L .one-ref m (b .ref) (a .ref) x (b .shows) (a .shows)) (b .holds) in
+      let r : b .ref ≡ a .ref = L .one-ref m (b .ref) (a .ref) x (b .shows) (a .shows) in
+      let h : Holds S m (b .at) (a .ref) (b .tree) = subst (λ r. Holds S m (b .at) r (b .tree)) r (b .holds) in
       let e : low (a .tree) ≡ low (b .tree) = (low-decided (a .at) (b .at) (a .ref) (a .digits) (a .tree) (b .tree) (a .holds) h (a .good)) .1 in
       (low (a .tree), a .key, rw e (b .key))
 
@@ -98,7 +99,9 @@ module _ {A : Type 0} (S : Shape A) (L : Lawful S) (dig : ℕ → ℕ → ℕ) (
   unfolding Holds Good mult
   once x w r q empty h g = omega arith
   once x w r q (leaf y k v) h g = one-le (eqb x y)
-  once x w r q (node y b s kids) h g = go (same? x y) (sum-once 16 (λ c. mult x (kids c)) (λ c l. once x (b + 1) (S .kid m y c) (upd (dig s) b c) (kids c) (h .1 c l) (g .3 c l)) apart)
+  once x w r q (node y b s kids) h g =
+      go (same? x y)
+      (sum-once 16 (λ c. mult x (kids c)) (λ c l. once x (b + 1) (S .kid m y c) (upd (dig s) b c) (kids c) (h .1 c l) (g .3 c l)) apart)
     where
       there : (c : ℕ) → c < 16 → 0 < mult x (kids c) → Reached x (b + 1) (upd (dig s) b c)
       there c l p = reached x (b + 1) (S .kid m y c) (upd (dig s) b c) (kids c) (h .1 c l) (g .3 c l) p
@@ -113,7 +116,8 @@ module _ {A : Type 0} (S : Shape A) (L : Lawful S) (dig : ℕ → ℕ → ℕ) (
       none-below e c l (inl p) =
           let z : Reached x (b + 1) (upd (dig s) b c) = there c l p in
           let f : z .ref ≡ r = L .one-ref m (z .ref) r x (z .shows) (rw (h .0 .there) e) in
-          absurd (omega (arith, z .deep, branch-below (z .at) (z .ref) y (h .0 .h) b (S .stored (h .0 .h) b s) (z .digits) (z .tree) (z .holds) (z .good) (rw f (h .0 .there))))
+          let d : ℕ = S .stored (h .0 .h) b s in
+          absurd (omega (arith, z .deep, branch-below (z .at) (z .ref) y (h .0 .h) b d (z .digits) (z .tree) (z .holds) (z .good) (rw f (h .0 .there))))
 
       go : Same? x y → sum 16 (λ c. mult x (kids c)) ≤ 1 → one (eqb x y) + sum 16 (λ c. mult x (kids c)) ≤ 1
       go (same e i) le = omega (arith, ap one i, sum-zero 16 (λ c. mult x (kids c)) (λ c l. none-below e c l (less? 0 (mult x (kids c)))))

@@ -1,5 +1,4 @@
--- A place in a tree and what stands there: replaced, counted, found, and good.
--- Assumes nothing.
+-- A place in a tree and what stands there: replaced, counted, found, and good. Rests on updates and sums. Assumes nothing.
 use mathlib.Core.Path.{_≡_, refl, sym, ap, _∙_, subst, fun-ext}
 use mathlib.Core.Logic.{_≢_}
 use mathlib.Core.Option.{Option, none, some}

@@ -1,5 +1,5 @@
 -- The trees that a put makes: a value changed, a leaf in an empty place, and a split: a new node over the new leaf and the old target.
--- Assumes nothing.
+-- Rests on replacing at a place. Assumes nothing.
 use mathlib.Core.Path.{_≡_, refl, sym, ap, _∙_}
 use mathlib.Core.Logic.{_≢_}
 use mathlib.Core.Option.{none}

@@ -1,5 +1,5 @@
--- Room: in a tree whose slots are a pool's, leaves and nodes are counted by their slots, nodes are fewer than leaves, and so what is not full has a free slot.
--- Assumes nothing.
+-- Room: in a tree whose slots are a pool's, leaves and nodes are counted by their slots, and nodes are fewer than leaves; so what is not full has a
+-- free slot. Rests on sums. Assumes nothing.
 use mathlib.Core.Path.{_≡_, refl, sym, ap, _∙_}
 use mathlib.Core.Logic.{_≢_, _⊎_, inl, inr}
 use Prim.Native.Nat.{ℕ, zero, suc, _+_, _-_, _≤_, _<_}

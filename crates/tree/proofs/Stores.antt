@@ -1,5 +1,4 @@
--- Stores touch their words and no others; a block leaves its values; the parts that a cut leaves.
--- Assumes nothing.
+-- Stores touch their words and no others; a block leaves its values; the parts that a cut leaves. Rests on updates. Assumes nothing.
 use mathlib.Core.Path.{_≡_, refl, ap, _∙_}
 use mathlib.Core.Logic.{_≢_, _⊎_, inl, inr}
 use Prim.Native.Nat.{ℕ, zero, suc, _+_, _≤_, _<_}
