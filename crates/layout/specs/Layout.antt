@@ -33,7 +33,7 @@ refView D N m (Leaf i) = leaf-there i (m (leafWord i)) (m (leafWord i + 1))
 refView D N m (Node j) = headView D (N + j) (m (nodeWord N j))
 refView D N m Bad = bad
 
--- "stored digits are the keys' digits from h on, for the smaller of length and twelve, the rest zero"
+-- the layout; "stored digits are the keys' digits from h on, for the smaller of length and twelve, the rest zero"
 unfoldable pub base : ℕ → ℕ → Shape ℕ
 base D N = record {
   own = own N;
@@ -42,13 +42,16 @@ base D N = record {
   stored = λ h b s. storedIn D 12 h (b - h) s;
 }
 
--- "A pool is sound if .. for everything reached from the root: .." What is reached is a tree.
+-- "A pool is sound if .. for everything reached from the root:" the memory holds a tree.
 pub record Held (D N : ℕ) (m : Mem) (t : Tree ℕ) : Type 0 where
+  -- "references are good; a node reached at depth w has w <= h <= b <= 15; .. stored digits are the keys' digits from h on"
   pub holds : Holds (base D N) m 0 (m 1) t
+  -- "it has at least two children; every key below it agrees in digits 0 to b-1 with every other; a key below child c has c as digit b"
   pub good : Good (digitIn D) D 0 (λ i. 0) t
+  -- "no slot is reached twice"
   pub once : (x : ℕ) → mult x t ≤ 1
 
--- the word of the reference to a place in a tree whose own reference is in word i
+-- the word of the reference to a place, the tree's own being in word i: the root's in word 1
 unfoldable pub refAt : {A : Type 0} → ℕ → ℕ → List ℕ → Tree A → ℕ
 refAt N i [] t = i
 refAt N i (c ∷ π) empty = i
