@@ -1,5 +1,4 @@
--- Tests that carry their proof, updates, and sums.
--- Assumes nothing.
+-- Tests that carry their proof, updates, and sums. Rests on arithmetic alone. Assumes nothing.
 use mathlib.Core.Path.{_≡_, refl, sym, ap, _∙_}
 use mathlib.Core.Logic.{_≢_, _⊎_, inl, inr}
 use Prim.Native.Nat.{ℕ, zero, suc, _+_, _≤_, _<_}
@@ -105,6 +104,22 @@ sum-upd (suc n) f g c h e = go (λ l. sum-upd n f g c l e) (last? c n h)
     go : (c < n → sum n f + g c ≡ sum n g + f c) → (c ≡ n) ⊎ (c < n) → sum n f + f n + g c ≡ sum n g + g n + f c
     go ih (inl e′) = rw e′ (omega (arith, sum-same n f g (λ i l. e i (λ z. omega (arith, e′)))))
     go ih (inr l) = omega (arith, ih l, e n (λ z. omega arith))
+
+-- one summand taken out
+pub sum-less : (n : ℕ) (f : ℕ → ℕ) (c : ℕ) → c < n → sum n (upd f c 0) + f c ≡ sum n f
+sum-less n f c l = omega (arith, sum-upd n (upd f c 0) f c l (λ i h. upd-off f c 0 i h), upd-at f c 0)
+
+-- two summands and no other
+pub sum-only : (n : ℕ) (f : ℕ → ℕ) (c d : ℕ) → c < n → d < n → c ≢ d → ((i : ℕ) → i < n → i ≢ c → i ≢ d → f i ≡ 0) → sum n f ≡ f c + f d
+sum-only n f c d lc ld apart rest =
+    let g : ℕ → ℕ = upd f c 0 in
+    omega (
+      arith,
+      sum-less n f c lc,
+      sum-less n g d ld,
+      upd-off f c 0 d (λ z. apart (sym z)),
+      sum-zero n (upd g d 0) (λ i l. upd-case (λ i x. x ≡ 0) g d 0 i refl (λ p. upd-case (λ i x. i ≢ d → x ≡ 0) f c 0 i (λ z. refl) (λ o z. rest i l o z) p)),
+    )
 
 pub sum-add : (n : ℕ) (f g : ℕ → ℕ) → sum n (λ i. f i + g i) ≡ sum n f + sum n g
 sum-add zero f g = refl

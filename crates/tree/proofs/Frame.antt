@@ -1,13 +1,12 @@
 -- What a change of memory does to a tree that is held: nothing outside its slots; a subtree replaced under its reference; a header rewritten;
--- one child of a node replaced; and a reference met earlier.
--- Assumes nothing.
+-- one child of a node replaced; and a reference met earlier. Rests on the counts of places. Assumes nothing.
 use mathlib.Core.Path.{_≡_, sym, ap, subst}
 use mathlib.Core.Logic.{_≢_}
 use Prim.Native.Nat.{ℕ, _+_, _≤_, _<_}
-use mathlib.Core.List.{List, [], _∷_}
+use mathlib.Core.List.{List}
 use native.Mathlib.Omega.{arith}
 use lib.Dec.{eqb}
-use Rattle.tree.specs.Tree.{Tree, empty, leaf, node, upd, sum, one, mult, On, sub, plug, dep}
+use Rattle.tree.specs.Tree.{Tree, empty, leaf, node, upd, sum, one, mult, On, here, down, sub, plug, dep, Stands}
 use Rattle.tree.specs.Shape.{View, none-there, leaf-there, node-there, bad, Mem, SameIn, Shape, Head, Holds}
 use Rattle.tree.proofs.Basics.{upd-case, one-at, sum-has, sum-two}
 use Rattle.tree.proofs.Places.{sub-mult}
@@ -62,21 +61,19 @@ module _ {A : Type 0} (S : Shape A) where
         → ((x : ℕ) → mult x (sub π t) < mult x t → SameIn (S .own) m m′ x)
         → ((r′ : ℕ) → Holds S m (dep π w t) r′ (sub π t) → Holds S m′ (dep π w t) r′ u)
         → Holds S m′ w r (plug π t u)
-    unfolding Holds mult On sub plug dep
-    graft m m′ [] w r t u o g e new = new r g
-    graft m m′ (c ∷ π) w r empty u o g e new = absurd o
-    graft m m′ (c ∷ π) w r (leaf x k v) u o g e new = absurd o
-    graft m m′ (c ∷ π) w r (node x b s kids) u o g e new =
-        let ex : SameIn (S .own) m m′ x = e x (omega (arith, one-at x, sub-mult π (kids c) x (o .1), sum-has 16 (λ i. mult x (kids i)) c (o .0))) in
-        let inner : Holds S m′ (b + 1) (S .kid m x c) (plug π (kids c) u)
-        = graft m m′ π (b + 1) (S .kid m x c) (kids c) u (o .1) (g .1 c (o .0))
-        (λ y h. e y (omega (arith, sum-has 16 (λ i. mult y (kids i)) c (o .0)))) new in (
+    unfolding Holds mult sub plug dep
+    graft m m′ π w r t u here g e new = new r g
+    graft m m′ π w r t u (down {c} {x} {b} {s} {kids} {π = ρ} l o) g e new =
+        let has : (y d : ℕ) → d < 16 → mult y (kids d) ≤ sum 16 (λ i. mult y (kids i)) = λ y d j. sum-has 16 (λ i. mult y (kids i)) d j in
+        let ex : SameIn (S .own) m m′ x = e x (omega (arith, one-at x, sub-mult ρ (kids c) x o, has x c l)) in
+        let inner : Holds S m′ (b + 1) (S .kid m x c) (plug ρ (kids c) u)
+        = graft m m′ ρ (b + 1) (S .kid m x c) (kids c) u o (g .1 c l) (λ y h. e y (omega (arith, has y c l))) new in (
           head-same m m′ w r x b s (g .0) ex,
-          λ d l.
-              rw (kid-same-of m m′ w r x b s d (g .0) l ex)
-              (upd-case (λ d. Holds S m′ (b + 1) (S .kid m x d)) kids c (plug π (kids c) u) d inner
-              (λ n. frame m m′ (b + 1) (S .kid m x d) (kids d) (g .1 d l)
-              (λ y h. e y (omega (arith, sub-mult π (kids c) y (o .1), sum-two 16 (λ i. mult y (kids i)) c d (o .0) l (λ z. n (sym z))))))),
+          λ d k.
+              rw (kid-same-of m m′ w r x b s d (g .0) k ex)
+              (upd-case (λ d. Holds S m′ (b + 1) (S .kid m x d)) kids c (plug ρ (kids c) u) d inner
+              (λ n. frame m m′ (b + 1) (S .kid m x d) (kids d) (g .1 d k)
+              (λ y h. e y (omega (arith, sub-mult ρ (kids c) y o, sum-two 16 (λ i. mult y (kids i)) c d l k (λ z. n (sym z))))))),
         )
 
     -- a header changes to one that is accepted, perhaps at another walk depth
@@ -89,26 +86,26 @@ module _ {A : Type 0} (S : Shape A) where
         (hd, λ d l. rw (same-kid d l) (frame m m′ (b + 1) (S .kid m x d) (kids d) (g .1 d l) (e d l)))
 
     -- one child of the node at ρ changes, and with it perhaps the words of what stood there
-    pub link : (m m′ : Mem) (ρ : List ℕ) (w r : ℕ) (t : Tree A) (x b s : ℕ) (kids : ℕ → Tree A) (c : ℕ) (u : Tree A) → On ρ t → sub ρ t ≡ node x b s kids
-        → c < 16 → ((y : ℕ) → mult y t ≤ 1) → Holds S m w r t
+    pub link : (m m′ : Mem) (ρ : List ℕ) (w r : ℕ) (t : Tree A) (x b s : ℕ) (kids : ℕ → Tree A) (c : ℕ) (u : Tree A) → c < 16 → Stands ρ (node x b s kids) t
+        → ((y : ℕ) → mult y t ≤ 1) → Holds S m w r t
         → ((y : ℕ) → y ≢ x → mult y (kids c) < mult y t → SameIn (S .own) m m′ y)
         → ((d : ℕ) → d < 16 → d ≢ c → S .kid m′ x d ≡ S .kid m x d)
         → ((r′ : ℕ) → Head S m (dep ρ w t) r′ x b s → Head S m′ (dep ρ w t) r′ x b s)
         → Holds S m′ (b + 1) (S .kid m′ x c) u
         → Holds S m′ w r (plug ρ t (node x b s (upd kids c u)))
     unfolding Holds mult
-    link m m′ ρ w r t x b s kids c u o e lc once g out same-kid hd new =
-        let at : (y : ℕ) → mult y (sub ρ t) ≡ one (eqb y x) + sum 16 (λ i. mult y (kids i)) = λ y. ap (mult y) e in
+    link m m′ ρ w r t x b s kids c u lc p once g out same-kid hd new =
+        let at : (y : ℕ) → mult y (sub ρ t) ≡ one (eqb y x) + sum 16 (λ i. mult y (kids i)) = λ y. ap (mult y) (p .is) in
         let has : (y d : ℕ) → d < 16 → mult y (kids d) ≤ sum 16 (λ i. mult y (kids i)) = λ y d j. sum-has 16 (λ i. mult y (kids i)) d j in
-        graft m m′ ρ w r t (node x b s (upd kids c u)) o g
+        graft m m′ ρ w r t (node x b s (upd kids c u)) (p .on) g
         (λ y l. out y (λ z. let k : mult x (sub ρ t) < mult x t = rw z at l in omega (arith, at x, one-at x, once x)) (omega (arith, at y, has y c lc)))
         (λ r′ h₀.
-        let h : Holds S m (dep ρ w t) r′ (node x b s kids) = subst (Holds S m (dep ρ w t) r′) e h₀ in (
+        let h : Holds S m (dep ρ w t) r′ (node x b s kids) = subst (Holds S m (dep ρ w t) r′) (p .is) h₀ in (
           hd r′ (h .0),
           λ d j.
               upd-case (λ d. Holds S m′ (b + 1) (S .kid m′ x d)) kids c u d new
               (λ n. rw (same-kid d j n) (frame m m′ (b + 1) (S .kid m x d) (kids d) (h .1 d j)
-              (λ y p. out y
-              (λ z. let k : 0 < mult x (kids d) = rw z at p in omega (arith, at x, one-at x, once x, sub-mult ρ t x o, has x d j))
-              (omega (arith, at y, sub-mult ρ t y o, sum-two 16 (λ i. mult y (kids i)) d c j lc n))))),
+              (λ y q. out y
+              (λ z. let k : 0 < mult x (kids d) = rw z at q in omega (arith, at x, one-at x, once x, sub-mult ρ t x (p .on), has x d j))
+              (omega (arith, at y, sub-mult ρ t y (p .on), sum-two 16 (λ i. mult y (kids i)) d c j lc n))))),
         ))

@@ -3,10 +3,10 @@ pub mod Places
 pub mod Frame
 pub mod Near
 pub mod Once
-pub mod Stores
 pub mod Walk
+pub mod Put
+pub mod Delete
+pub mod Room
 pub mod Listing
 pub mod Grow
-pub mod Split
-pub mod Drop
-pub mod Room
+pub mod Stores

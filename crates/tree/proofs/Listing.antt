@@ -1,5 +1,5 @@
 -- A good tree's entries rise, are as many as its leaves, and are found as the walk finds them. Two rising lists that answer alike are equal.
--- Assumes nothing.
+-- Rests on the digits of places. Assumes nothing.
 use mathlib.Core.Path.{_≡_, refl, sym, ap, _∙_}
 use mathlib.Core.Logic.{_≢_, _⊎_, inl, inr}
 use Prim.Native.Nat.{ℕ, zero, suc, _+_, _≤_, _<_}
@@ -7,11 +7,12 @@ use mathlib.Core.Option.{Option, none, some}
 use mathlib.Core.List.{List, [], _∷_, _++_}
 use native.Mathlib.Omega.{arith}
 use lib.Dec.{eqb}
+use lib.ListN.{length, length-append}
 use borrow.Author.Tests.{eq-eqb, ne-eqb}
 use Rattle.digits.specs.Choice.{pick}
-use Rattle.tree.specs.Tree.{Tree, empty, leaf, node, upd, Agree, find, Good}
+use Rattle.tree.specs.Tree.{Tree, empty, leaf, node, upd, sum, leaves, Agree, find, Good}
 use Rattle.tree.specs.Listing.{Entry, Every, Rising, look, cat, entries}
-use Rattle.tree.proofs.Basics.{Same?, same, other, same?, less?, upd-at, upd-off}
+use Rattle.tree.proofs.Basics.{Same?, same, other, same?, less?, upd-at, upd-off, sum-same}
 use Rattle.tree.proofs.Places.{agree-up}
 
 module _ {A : Type 0} where
@@ -81,6 +82,19 @@ module _ {A : Type 0} where
         rising-append (λ e. (c : ℕ) × (c < n) × U c e) (cat n f) (f n) (rising-cat n f (λ c l. u c (omega arith)) (λ c l. r c (omega arith))) (r n (omega arith))
         (cat-every (λ e. (c : ℕ) × (c < n) × U c e) n f (λ c l. every-more (U c) (λ e. (c : ℕ) × (c < n) × U c e) (f c) (λ e g. (c, l, g)) (u c (omega arith))))
         (λ e g. every-more (U n) (λ e′. e .key < e′ .key) (f n) (λ e′ g′. less (g .0) n e e′ (g .1) (g .2) g′) (u n (omega arith)))
+
+  cat-length : (n : ℕ) (f : ℕ → List (Entry A)) → length (cat n f) ≡ sum n (λ c. length (f c))
+  unfolding cat
+  cat-length zero f = refl
+  cat-length (suc n) f = omega (arith, length-append (cat n f) (f n), cat-length n f)
+
+  -- an entry for each leaf
+  pub entries-length : (t : Tree A) → length (entries t) ≡ leaves t
+  unfolding entries leaves
+  entries-length empty = refl
+  entries-length (leaf x k v) = refl
+  entries-length (node x b s kids) =
+      cat-length 16 (λ c. entries (kids c)) ∙ sum-same 16 (λ c. length (entries (kids c))) (λ c. leaves (kids c)) (λ c l. entries-length (kids c))
 
 module _ (dig : ℕ → ℕ → ℕ) (D : ℕ) (Ok : ℕ → Type 0)
     (less : (k k′ i : ℕ) → Ok k → Ok k′ → i < D → ((j : ℕ) → j < i → dig k j ≡ dig k′ j) → dig k i < dig k′ i → k < k′) {A : Type 0} where

@@ -1,12 +1,12 @@
--- No slot is reached twice in a tree that is held and good: two ways to one slot part at a node, and the lowest leaf below would have two digits there.
--- Assumes nothing.
+-- No slot is reached twice in a tree that is held and good: two ways to one slot part at a node, and the lowest key below it would have two digits
+-- there. Rests on the frame and on the lowest leaf. Assumes nothing.
 use mathlib.Core.Path.{_≡_, refl, sym, ap, _∙_, subst}
 use mathlib.Core.Logic.{_≢_, _⊎_, inl, inr}
 use Prim.Native.Nat.{ℕ, _+_, _≤_, _<_}
 use native.Mathlib.Omega.{arith}
 use lib.Dec.{eqb}
 use Rattle.digits.specs.Loops.{scan}
-use Rattle.tree.specs.Tree.{Tree, empty, leaf, node, upd, sum, one, mult, Filled, Agree, Good}
+use Rattle.tree.specs.Tree.{Tree, empty, leaf, node, upd, sum, one, mult, Agree, Good}
 use Rattle.tree.specs.Shape.{node-there, Mem, Shape, Holds}
 use Rattle.tree.specs.Near.{filled, low}
 use Rattle.tree.proofs.Basics.{Same?, same, other, same?, less?, upd-at, one-is, one-le, sum-zero, sum-some, sum-once}
@@ -34,28 +34,37 @@ module _ {A : Type 0} (S : Shape A) (L : Lawful S) (dig : ℕ → ℕ → ℕ) (
       let e : d ≡ scan 16 0 (λ c. filled (kids′ c)) = scan-same 16 0 (λ c. filled (kids c)) (λ c. filled (kids′ c)) (λ c a l. (ih c (omega arith)) .0) in
       (refl, (ih d ((lowest kids (g .4)) .0)) .1 ∙ ap (λ c. low (kids′ c)) e)
 
-  -- a slot that is reached is the root of a tree held and good somewhere below
+  -- a slot that is reached is the root of a tree held and good somewhere below, whose lowest key comes by the way to it
   record Reached (x w : ℕ) (q : ℕ → ℕ) : Type 0 where
     at : ℕ
     ref : ℕ
     digits : ℕ → ℕ
     tree : Tree A
+    shows : Shows x (S .view m ref)
     holds : Holds S m at ref tree
     good : Good dig D at digits tree
-    shows : Shows x (S .view m ref)
     deep : w ≤ at
-    agrees : (k : ℕ) → Agree dig at digits k → Agree dig w q k
+    key : Agree dig w q (low tree)
 
   reached : (x w r : ℕ) (q : ℕ → ℕ) (t : Tree A) → Holds S m w r t → Good dig D w q t → 0 < mult x t → Reached x w q
-  unfolding Holds Good mult
+  unfolding Holds Good mult low
   reached x w r q empty h g p = absurd (omega arith)
   reached x w r q (leaf y k v) h g p =
-      record { at = w; ref = r; digits = q; tree = leaf y k v; holds = h; good = g; shows = rw h (one-is x y p); deep = omega arith; agrees = λ k a. a }
+      record { at = w; ref = r; digits = q; tree = leaf y k v; shows = rw h (one-is x y p); holds = h; good = g; deep = omega arith; key = g }
   reached x w r q (node y b s kids) h g p = go (same? x y) (λ c l. reached x (b + 1) (S .kid m y c) (upd (dig s) b c) (kids c) (h .1 c l) (g .3 c l))
     where
       go : Same? x y → ((c : ℕ) → c < 16 → 0 < mult x (kids c) → Reached x (b + 1) (upd (dig s) b c)) → Reached x w q
-      go (same e i) ih =
-          record { at = w; ref = r; digits = q; tree = node y b s kids; holds = h; good = g; shows = rw (h .0 .there) e; deep = omega arith; agrees = λ k a. a }
+      go (same e i) ih = record {
+        at = w;
+        ref = r;
+        digits = q;
+        tree = node y b s kids;
+        shows = rw (h .0 .there) e;
+        holds = h;
+        good = g;
+        deep = omega arith;
+        key = low-agrees dig dl D w q (node y b s kids) tt g;
+      }
       go (other n i) ih =
           let (c, l, o) = sum-some 16 (λ c. mult x (kids c)) (omega (arith, ap one i)) in
           let z : Reached x (b + 1) (upd (dig s) b c) = ih c l o in
@@ -64,29 +73,22 @@ module _ {A : Type 0} (S : Shape A) (L : Lawful S) (dig : ℕ → ℕ → ℕ) (
             ref = z .ref;
             digits = z .digits;
             tree = z .tree;
+            shows = z .shows;
             holds = z .holds;
             good = z .good;
-            shows = z .shows;
             deep = omega (arith, g .0, z .deep);
-            agrees = λ k a. agree-up dig w b c s q k (g .0) (g .2) (z .agrees k a);
+            key = agree-up dig w b c s q (low (z .tree)) (g .0) (g .2) (z .key);
           }
-
-  shown-filled : (x w r : ℕ) (t : Tree A) → Holds S m w r t → Shows x (S .view m r) → Filled t
-  unfolding Holds
-  shown-filled x w r empty h z = rw h at z
-  shown-filled x w r (leaf y k v) h z = tt
-  shown-filled x w r (node y b s kids) h z = tt
 
   -- a slot that is reached in two ways has a key below that comes by both
   key-below : (x w w′ : ℕ) (q q′ : ℕ → ℕ) → Reached x w q → Reached x w′ q′ → (k : ℕ) × Agree dig w q k × Agree dig w′ q′ k
   key-below x w w′ q q′ a b =
-      let h : Holds S m (b .at) (a .ref) (b .tree) = subst (λ r. Holds S m (b .at) r (b .tree)) (L .one-ref m (b .ref) (a .ref) x (b .shows) (a .shows)) (b .holds) in
-      let e : low (a .tree) ≡ low (b .tree) = (low-decided (a .at) (b .at) (a .ref) (a .digits) (a .tree) (b .tree) (a .holds) h (a .good)) .1 in (
-        low (a .tree),
-        a .agrees (low (a .tree)) (low-agrees dig dl D (a .at) (a .digits) (a .tree) (shown-filled x (a .at) (a .ref) (a .tree) (a .holds) (a .shows)) (a .good)),
-        rw e (b .agrees (low (b .tree)) (low-agrees dig dl D (b .at) (b .digits) (b .tree) (shown-filled x (b .at) (b .ref) (b .tree) (b .holds) (b .shows)) (b .good))),
-      )
+      let r : b .ref ≡ a .ref = L .one-ref m (b .ref) (a .ref) x (b .shows) (a .shows) in
+      let h : Holds S m (b .at) (a .ref) (b .tree) = subst (λ r. Holds S m (b .at) r (b .tree)) r (b .holds) in
+      let e : low (a .tree) ≡ low (b .tree) = (low-decided (a .at) (b .at) (a .ref) (a .digits) (a .tree) (b .tree) (a .holds) h (a .good)) .1 in
+      (low (a .tree), a .key, rw e (b .key))
 
+  -- a node's branch place is that of every tree that its reference is said to hold
   branch-below : (w r x h b g : ℕ) (q : ℕ → ℕ) (t : Tree A) → Holds S m w r t → Good dig D w q t → S .view m r ≡ node-there x h b g → w ≤ b
   unfolding Holds Good
   branch-below w r x h b g q empty a o e = let z : _≡_ {A = ℕ} 0 1 = cc in absurd (omega arith)
@@ -97,7 +99,9 @@ module _ {A : Type 0} (S : Shape A) (L : Lawful S) (dig : ℕ → ℕ → ℕ) (
   unfolding Holds Good mult
   once x w r q empty h g = omega arith
   once x w r q (leaf y k v) h g = one-le (eqb x y)
-  once x w r q (node y b s kids) h g = go (same? x y) (sum-once 16 (λ c. mult x (kids c)) (λ c l. once x (b + 1) (S .kid m y c) (upd (dig s) b c) (kids c) (h .1 c l) (g .3 c l)) apart)
+  once x w r q (node y b s kids) h g =
+      go (same? x y)
+      (sum-once 16 (λ c. mult x (kids c)) (λ c l. once x (b + 1) (S .kid m y c) (upd (dig s) b c) (kids c) (h .1 c l) (g .3 c l)) apart)
     where
       there : (c : ℕ) → c < 16 → 0 < mult x (kids c) → Reached x (b + 1) (upd (dig s) b c)
       there c l p = reached x (b + 1) (S .kid m y c) (upd (dig s) b c) (kids c) (h .1 c l) (g .3 c l) p
@@ -112,7 +116,8 @@ module _ {A : Type 0} (S : Shape A) (L : Lawful S) (dig : ℕ → ℕ → ℕ) (
       none-below e c l (inl p) =
           let z : Reached x (b + 1) (upd (dig s) b c) = there c l p in
           let f : z .ref ≡ r = L .one-ref m (z .ref) r x (z .shows) (rw (h .0 .there) e) in
-          absurd (omega (arith, z .deep, branch-below (z .at) (z .ref) y (h .0 .h) b (S .stored (h .0 .h) b s) (z .digits) (z .tree) (z .holds) (z .good) (rw f (h .0 .there))))
+          let d : ℕ = S .stored (h .0 .h) b s in
+          absurd (omega (arith, z .deep, branch-below (z .at) (z .ref) y (h .0 .h) b d (z .digits) (z .tree) (z .holds) (z .good) (rw f (h .0 .there))))
 
       go : Same? x y → sum 16 (λ c. mult x (kids c)) ≤ 1 → one (eqb x y) + sum 16 (λ c. mult x (kids c)) ≤ 1
       go (same e i) le = omega (arith, ap one i, sum-zero 16 (λ c. mult x (kids c)) (λ c l. none-below e c l (less? 0 (mult x (kids c)))))

@@ -1,103 +1,90 @@
--- A place in a tree and what stands there: replaced, counted, found, and good.
--- Assumes nothing.
+-- A place in a tree and what stands there: replaced, counted, found, and good. Rests on updates and sums. Assumes nothing.
 use mathlib.Core.Path.{_≡_, refl, sym, ap, _∙_, subst, fun-ext}
 use mathlib.Core.Logic.{_≢_}
 use mathlib.Core.Option.{Option, none, some}
 use Prim.Native.Nat.{ℕ, _+_, _≤_, _<_}
 use mathlib.Core.List.{List, [], _∷_, _++_}
 use native.Mathlib.Omega.{arith}
-use Rattle.tree.specs.Tree.{Tree, empty, leaf, node, upd, mult, Filled, On, sub, plug, dep, Two, Agree, pre, find, Good}
+use Rattle.tree.specs.Tree.{Tree, empty, leaf, node, upd, mult, Filled, On, here, down, sub, plug, dep, Stands, Two, Agree, pre, find, Good}
 use Rattle.tree.proofs.Basics.{Same?, same, other, same?, upd-at, upd-off, upd-case, sum-has, sum-upd}
 
 module _ {A : Type 0} where
   -- ---- what stands at a place, replaced
   pub plug-sub : (π : List ℕ) (t : Tree A) → On π t → plug π t (sub π t) ≡ t
-  unfolding On sub plug
-  plug-sub [] t o = refl
-  plug-sub (c ∷ π) empty o = absurd o
-  plug-sub (c ∷ π) (leaf x k v) o = absurd o
-  plug-sub (c ∷ π) (node x b s kids) o =
-      ap (node x b s) (fun-ext (λ d. upd-case {B = Tree A} (λ d t. t ≡ kids d) kids c (plug π (kids c) (sub π (kids c))) d (plug-sub π (kids c) (o .1)) (λ n. refl)))
+  unfolding sub plug
+  plug-sub π t here = refl
+  plug-sub π t (down {c} {x} {b} {s} {kids} {π = ρ} l o) =
+      ap (node x b s) (fun-ext (λ d. upd-case {B = Tree A} (λ d t. t ≡ kids d) kids c (plug ρ (kids c) (sub ρ (kids c))) d (plug-sub ρ (kids c) o) (λ n. refl)))
 
-  -- the place is there still, and has what was put there
-  pub record Plugged (π : List ℕ) (t u : Tree A) : Type 0 where
-    pub on : On π (plug π t u)
-    pub sub-is : sub π (plug π t u) ≡ u
-    pub dep-is : (w : ℕ) → dep π w (plug π t u) ≡ dep π w t
+  -- u stands there then, at the same walk depth
+  pub plug-stands : (π : List ℕ) (t u : Tree A) → On π t → Stands π u (plug π t u)
+  unfolding sub plug
+  plug-stands π t u here = record { on = here; is = refl }
+  plug-stands π t u (down {c} {kids = kids} {π = ρ} l o) =
+      let p : Stands ρ u (plug ρ (kids c) u) = plug-stands ρ (kids c) u o in
+      let e : upd kids c (plug ρ (kids c) u) c ≡ plug ρ (kids c) u = upd-at kids c (plug ρ (kids c) u) in
+      record { on = down {kids = upd kids c (plug ρ (kids c) u)} l (subst (On ρ) (sym e) (p .on)); is = rw e (p .is) }
 
-  pub plugged : (π : List ℕ) (t u : Tree A) → On π t → Plugged π t u
-  unfolding On sub plug dep
-  plugged [] t u o = record { on = tt; sub-is = refl; dep-is = λ w. refl }
-  plugged (c ∷ π) empty u o = absurd o
-  plugged (c ∷ π) (leaf x k v) u o = absurd o
-  plugged (c ∷ π) (node x b s kids) u o =
-      let p : Plugged π (kids c) u = plugged π (kids c) u (o .1) in
-      let e : upd kids c (plug π (kids c) u) c ≡ plug π (kids c) u = upd-at kids c (plug π (kids c) u) in
-      record { on = (o .0, rw e (p .on)); sub-is = rw e (p .sub-is); dep-is = λ w. rw e (p .dep-is (b + 1)) }
+  pub plug-dep : (π : List ℕ) (w : ℕ) (t u : Tree A) → On π t → dep π w (plug π t u) ≡ dep π w t
+  unfolding plug dep
+  plug-dep π w t u here = refl
+  plug-dep π w t u (down {c} {b = b} {kids = kids} {π = ρ} l o) =
+      let e : upd kids c (plug ρ (kids c) u) c ≡ plug ρ (kids c) u = upd-at kids c (plug ρ (kids c) u) in
+      rw e (plug-dep ρ (b + 1) (kids c) u o)
 
   -- ---- counts
   pub sub-mult : (π : List ℕ) (t : Tree A) (x : ℕ) → On π t → mult x (sub π t) ≤ mult x t
-  unfolding mult On sub
-  sub-mult [] t x o = omega arith
-  sub-mult (c ∷ π) empty x o = absurd o
-  sub-mult (c ∷ π) (leaf y k v) x o = absurd o
-  sub-mult (c ∷ π) (node y b s kids) x o = omega (arith, sub-mult π (kids c) x (o .1), sum-has 16 (λ c. mult x (kids c)) c (o .0))
+  unfolding mult sub
+  sub-mult π t x here = omega arith
+  sub-mult π t x (down {c} {kids = kids} {π = ρ} l o) = omega (arith, sub-mult ρ (kids c) x o, sum-has 16 (λ c. mult x (kids c)) c l)
 
   pub plug-mult : (π : List ℕ) (t u : Tree A) (x : ℕ) → On π t → mult x (plug π t u) + mult x (sub π t) ≡ mult x t + mult x u
-  unfolding mult On sub plug
-  plug-mult [] t u x o = omega arith
-  plug-mult (c ∷ π) empty u x o = absurd o
-  plug-mult (c ∷ π) (leaf y k v) u x o = absurd o
-  plug-mult (c ∷ π) (node y b s kids) u x o =
-      let f : ℕ → ℕ = λ i. mult x (upd kids c (plug π (kids c) u) i) in
+  unfolding mult sub plug
+  plug-mult π t u x here = omega arith
+  plug-mult π t u x (down {c} {kids = kids} {π = ρ} l o) =
+      let f : ℕ → ℕ = λ i. mult x (upd kids c (plug ρ (kids c) u) i) in
       let g : ℕ → ℕ = λ i. mult x (kids i) in
       omega (
         arith,
-        sum-upd 16 f g c (o .0) (λ i h. ap (mult x) (upd-off kids c (plug π (kids c) u) i h)),
-        ap (mult x) (upd-at kids c (plug π (kids c) u)),
-        plug-mult π (kids c) u x (o .1),
+        sum-upd 16 f g c l (λ i h. ap (mult x) (upd-off kids c (plug ρ (kids c) u) i h)),
+        ap (mult x) (upd-at kids c (plug ρ (kids c) u)),
+        plug-mult ρ (kids c) u x o,
       )
 
 -- ---- the child of a node at a place
 module _ (dig : ℕ → ℕ → ℕ) {A : Type 0} where
   pub record Child (ρ : List ℕ) (c x b s : ℕ) (kids : ℕ → Tree A) (t : Tree A) : Type 0 where
-    pub on : On (ρ ++ c ∷ []) t
-    pub sub-is : sub (ρ ++ c ∷ []) t ≡ kids c
+    pub stands : Stands (ρ ++ c ∷ []) (kids c) t
     pub dep-is : (w : ℕ) → dep (ρ ++ c ∷ []) w t ≡ b + 1
     pub pre-is : (q : ℕ → ℕ) → pre dig (ρ ++ c ∷ []) q t ≡ upd (dig s) b c
     pub plug-is : (u : Tree A) → plug (ρ ++ c ∷ []) t u ≡ plug ρ t (node x b s (upd kids c u))
 
-  pub child : (ρ : List ℕ) (c x b s : ℕ) (kids : ℕ → Tree A) (t : Tree A) → On ρ t → sub ρ t ≡ node x b s kids → c < 16 → Child ρ c x b s kids t
-  unfolding On sub plug dep pre
-  child [] c x b s kids t o e l =
-      subst (Child [] c x b s kids) (sym e) (record { on = (l, tt); sub-is = refl; dep-is = λ w. refl; pre-is = λ q. refl; plug-is = λ u. refl })
-  child (d ∷ ρ) c x b s kids empty o e l = absurd o
-  child (d ∷ ρ) c x b s kids (leaf y k v) o e l = absurd o
-  child (d ∷ ρ) c x b s kids (node y b′ s′ kids′) o e l =
-      let p : Child ρ c x b s kids (kids′ d) = child ρ c x b s kids (kids′ d) (o .1) e l in
+  child-on : (ρ : List ℕ) (c x b s : ℕ) (kids : ℕ → Tree A) (t : Tree A) → c < 16 → On ρ t → sub ρ t ≡ node x b s kids → Child ρ c x b s kids t
+  unfolding sub plug dep pre
+  child-on ρ c x b s kids t l here e =
+      subst (Child [] c x b s kids) (sym e)
+      (record { stands = record { on = down {kids = kids} l here; is = refl }; dep-is = λ w. refl; pre-is = λ q. refl; plug-is = λ u. refl })
+  child-on ρ c x b s kids t l (down {c = d} {x = y} {b = b′} {s = s′} {kids = kids′} {π = π} k o) e =
+      let C : Child π c x b s kids (kids′ d) = child-on π c x b s kids (kids′ d) l o e in
       record {
-        on = (o .0, p .on);
-        sub-is = p .sub-is;
-        dep-is = λ w. p .dep-is (b′ + 1);
-        pre-is = λ q. p .pre-is (upd (dig s′) b′ d);
-        plug-is = λ u. ap (λ z. node y b′ s′ (upd kids′ d z)) (p .plug-is u);
+        stands = record { on = down {kids = kids′} k (C .stands .on); is = C .stands .is };
+        dep-is = λ w. C .dep-is (b′ + 1);
+        pre-is = λ q. C .pre-is (upd (dig s′) b′ d);
+        plug-is = λ u. ap (λ z. node y b′ s′ (upd kids′ d z)) (C .plug-is u);
       }
 
--- a place is the root, or a child of a node
-pub data Spot {A : Type 0} (t : Tree A) (π : List ℕ) : Type 0 where
-  root : π ≡ [] → Spot t π
-  below : (ρ : List ℕ) (c x b s : ℕ) (kids : ℕ → Tree A) → π ≡ ρ ++ c ∷ [] → On ρ t → sub ρ t ≡ node x b s kids → c < 16 → Spot t π
+  pub child : (ρ : List ℕ) (c x b s : ℕ) (kids : ℕ → Tree A) (t : Tree A) → c < 16 → Stands ρ (node x b s kids) t → Child ρ c x b s kids t
+  child ρ c x b s kids t l p = child-on ρ c x b s kids t l (p .on) (p .is)
 
-pub spot : {A : Type 0} (π : List ℕ) (t : Tree A) → On π t → Spot t π
-unfolding On sub
-spot [] t o = root refl
-spot (c ∷ π) empty o = absurd o
-spot (c ∷ π) (leaf x k v) o = absurd o
-spot (c ∷ π) (node x b s kids) o = go (spot π (kids c) (o .1))
-  where
-    go : Spot (kids c) π → Spot (node x b s kids) (c ∷ π)
-    go (root e) = below [] c x b s kids (ap (c ∷_) e) tt refl (o .0)
-    go (below ρ d y b′ s′ kids′ e oρ at l) = below (c ∷ ρ) d y b′ s′ kids′ (ap (c ∷_) e) (o .0, oρ) at l
+-- a place is the root, or a child of a node
+pub by-place : {A : Type 0} (P : List ℕ → Type 0) (t : Tree A) → P []
+    → ((ρ : List ℕ) (c x b s : ℕ) (kids : ℕ → Tree A) → c < 16 → Stands ρ (node x b s kids) t → P (ρ ++ c ∷ []))
+    → (π : List ℕ) → On π t → P π
+unfolding sub
+by-place P t root below π here = root
+by-place P t root below π (down {c} {x} {b} {s} {kids} {π = ρ} l o) =
+    by-place (λ ρ. P (c ∷ ρ)) (kids c) (below [] c x b s kids l (record { on = here; is = refl }))
+    (λ ρ d y b′ s′ kids′ k p. below (c ∷ ρ) d y b′ s′ kids′ k (record { on = down {kids = kids} l (p .on); is = p .is })) ρ o
 
 -- ---- digits
 -- from a child's digits to the node's
@@ -110,11 +97,9 @@ agree-down dig b c s k a e = λ i h. upd-case (λ i y. dig k i ≡ y) (dig s) b 
 
 module _ {A : Type 0} where
   pub plug-filled : (π : List ℕ) (t u : Tree A) → On π t → Filled u → Filled (plug π t u)
-  unfolding On plug
-  plug-filled [] t u o f = f
-  plug-filled (c ∷ π) empty u o f = absurd o
-  plug-filled (c ∷ π) (leaf x k v) u o f = absurd o
-  plug-filled (c ∷ π) (node x b s kids) u o f = tt
+  unfolding plug
+  plug-filled π t u here f = f
+  plug-filled π t u (down l o) f = tt
 
   two-upd : (kids : ℕ → Tree A) (c : ℕ) (u : Tree A) → Filled u → Two kids → Two (upd kids c u)
   two-upd kids c u f g = record {
@@ -131,68 +116,56 @@ module _ (dig : ℕ → ℕ → ℕ) {A : Type 0} where
   -- ---- find
   -- a replacement that changes nothing for k below changes nothing for it above
   pub find-keeps : (π : List ℕ) (t u : Tree A) (k : ℕ) → On π t → find dig k u ≡ find dig k (sub π t) → find dig k (plug π t u) ≡ find dig k t
-  unfolding On sub plug find
-  find-keeps [] t u k o e = e
-  find-keeps (c ∷ π) empty u k o e = absurd o
-  find-keeps (c ∷ π) (leaf x k′ v) u k o e = absurd o
-  find-keeps (c ∷ π) (node x b s kids) u k o e =
-      upd-case (λ d t. find dig k t ≡ find dig k (kids d)) kids c (plug π (kids c) u) (dig k b) (find-keeps π (kids c) u k (o .1) e) (λ n. refl)
+  unfolding sub plug find
+  find-keeps π t u k here e = e
+  find-keeps π t u k (down {c} {b = b} {kids = kids} {π = ρ} l o) e =
+      upd-case (λ d t. find dig k t ≡ find dig k (kids d)) kids c (plug ρ (kids c) u) (dig k b) (find-keeps ρ (kids c) u k o e) (λ n. refl)
 
   module _ (D : ℕ) where
     pub dep-le : (π : List ℕ) (w : ℕ) (q : ℕ → ℕ) (t : Tree A) → On π t → Good dig D w q t → w ≤ dep π w t
-    unfolding On dep Good
-    dep-le [] w q t o g = omega arith
-    dep-le (c ∷ π) w q empty o g = absurd o
-    dep-le (c ∷ π) w q (leaf x k v) o g = absurd o
-    dep-le (c ∷ π) w q (node x b s kids) o g = omega (arith, dep-le π (b + 1) (upd (dig s) b c) (kids c) (o .1) (g .3 c (o .0)))
+    unfolding dep Good
+    dep-le π w q t here g = omega arith
+    dep-le π w q t (down {c} {b = b} {s = s} {kids = kids} {π = ρ} l o) g = omega (arith, dep-le ρ (b + 1) (upd (dig s) b c) (kids c) o (g .3 c l))
 
     pub pre-keeps : (π : List ℕ) (w : ℕ) (q : ℕ → ℕ) (t : Tree A) → On π t → Good dig D w q t → (i : ℕ) → i < w → pre dig π q t i ≡ q i
-    unfolding On pre Good
-    pre-keeps [] w q t o g i h = refl
-    pre-keeps (c ∷ π) w q empty o g i h = absurd o
-    pre-keeps (c ∷ π) w q (leaf x k v) o g i h = absurd o
-    pre-keeps (c ∷ π) w q (node x b s kids) o g i h =
-        pre-keeps π (b + 1) (upd (dig s) b c) (kids c) (o .1) (g .3 c (o .0)) i (omega arith) ∙ upd-off (dig s) b c i (λ z. omega arith) ∙ g .2 i h
+    unfolding pre Good
+    pre-keeps π w q t here g i h = refl
+    pre-keeps π w q t (down {c} {b = b} {s = s} {kids = kids} {π = ρ} l o) g i h =
+        pre-keeps ρ (b + 1) (upd (dig s) b c) (kids c) o (g .3 c l) i (omega arith) ∙ upd-off (dig s) b c i (λ z. omega arith) ∙ g .2 i h
 
     -- a key with the digits of a place comes by it
     pub find-there : (π : List ℕ) (w : ℕ) (q : ℕ → ℕ) (t u : Tree A) (k : ℕ) → On π t → Good dig D w q t → Agree dig (dep π w t) (pre dig π q t) k
         → find dig k (plug π t u) ≡ find dig k u
-    unfolding On plug dep pre find Good
-    find-there [] w q t u k o g a = refl
-    find-there (c ∷ π) w q empty u k o g a = absurd o
-    find-there (c ∷ π) w q (leaf x k′ v) u k o g a = absurd o
-    find-there (c ∷ π) w q (node x b s kids) u k o g a =
+    unfolding plug dep pre find Good
+    find-there π w q t u k here g a = refl
+    find-there π w q t u k (down {c} {b = b} {s = s} {kids = kids} {π = ρ} l o) g a =
         let q′ : ℕ → ℕ = upd (dig s) b c in
         let e : dig k b ≡ c =
-        a b (omega (arith, dep-le π (b + 1) q′ (kids c) (o .1) (g .3 c (o .0))))
-        ∙ pre-keeps π (b + 1) q′ (kids c) (o .1) (g .3 c (o .0)) b (omega arith)
+        a b (omega (arith, dep-le ρ (b + 1) q′ (kids c) o (g .3 c l)))
+        ∙ pre-keeps ρ (b + 1) q′ (kids c) o (g .3 c l) b (omega arith)
         ∙ upd-at (dig s) b c in
-        ap (find dig k) (ap (upd kids c (plug π (kids c) u)) e ∙ upd-at kids c (plug π (kids c) u))
-        ∙ find-there π (b + 1) q′ (kids c) u k (o .1) (g .3 c (o .0)) a
+        ap (find dig k) (ap (upd kids c (plug ρ (kids c) u)) e ∙ upd-at kids c (plug ρ (kids c) u))
+        ∙ find-there ρ (b + 1) q′ (kids c) u k o (g .3 c l) a
 
     -- ---- good trees
     pub good-sub : (π : List ℕ) (w : ℕ) (q : ℕ → ℕ) (t : Tree A) → On π t → Good dig D w q t → Good dig D (dep π w t) (pre dig π q t) (sub π t)
-    unfolding On sub dep pre Good
-    good-sub [] w q t o g = g
-    good-sub (c ∷ π) w q empty o g = absurd o
-    good-sub (c ∷ π) w q (leaf x k v) o g = absurd o
-    good-sub (c ∷ π) w q (node x b s kids) o g = good-sub π (b + 1) (upd (dig s) b c) (kids c) (o .1) (g .3 c (o .0))
+    unfolding sub dep pre Good
+    good-sub π w q t here g = g
+    good-sub π w q t (down {c} {b = b} {s = s} {kids = kids} {π = ρ} l o) g = good-sub ρ (b + 1) (upd (dig s) b c) (kids c) o (g .3 c l)
 
     pub good-plug : (π : List ℕ) (w : ℕ) (q : ℕ → ℕ) (t u : Tree A) → On π t → Good dig D w q t → Filled u
         → Good dig D (dep π w t) (pre dig π q t) u → Good dig D w q (plug π t u)
-    unfolding On plug dep pre Good
-    good-plug [] w q t u o g f n = n
-    good-plug (c ∷ π) w q empty u o g f n = absurd o
-    good-plug (c ∷ π) w q (leaf x k v) u o g f n = absurd o
-    good-plug (c ∷ π) w q (node x b s kids) u o g f n = (
+    unfolding plug dep pre Good
+    good-plug π w q t u here g f n = n
+    good-plug π w q t u (down {c} {b = b} {s = s} {kids = kids} {π = ρ} l o) g f n = (
       g .0,
       g .1,
       g .2,
-      λ d l.
-          upd-case (λ d. Good dig D (b + 1) (upd (dig s) b d)) kids c (plug π (kids c) u) d
-          (good-plug π (b + 1) (upd (dig s) b c) (kids c) u (o .1) (g .3 c (o .0)) f n)
-          (λ z. g .3 d l),
-      two-upd kids c (plug π (kids c) u) (plug-filled π (kids c) u (o .1) f) (g .4),
+      λ d k.
+          upd-case (λ d. Good dig D (b + 1) (upd (dig s) b d)) kids c (plug ρ (kids c) u) d
+          (good-plug ρ (b + 1) (upd (dig s) b c) (kids c) u o (g .3 c l) f n)
+          (λ z. g .3 d k),
+      two-upd kids c (plug ρ (kids c) u) (plug-filled ρ (kids c) u o f) (g .4),
     )
 
     -- only the first w digits of q matter

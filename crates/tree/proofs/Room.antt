@@ -1,5 +1,5 @@
--- Room: in a tree whose slots are a pool's, leaves and nodes are counted by their slots, nodes are fewer than leaves, and so what is not full has a free slot.
--- Assumes nothing.
+-- Room: in a tree whose slots are a pool's, leaves and nodes are counted by their slots, and nodes are fewer than leaves; so what is not full has a
+-- free slot. Rests on sums. Assumes nothing.
 use mathlib.Core.Path.{_≡_, refl, sym, ap, _∙_}
 use mathlib.Core.Logic.{_≢_, _⊎_, inl, inr}
 use Prim.Native.Nat.{ℕ, zero, suc, _+_, _-_, _≤_, _<_}
@@ -16,7 +16,7 @@ module _ {A : Type 0} where
   Slots N (leaf x k v) = x < N
   Slots N (node x b s kids) = (N ≤ x) × (x + 1 < N + N) × ((c : ℕ) → c < 16 → Slots N (kids c))
 
-  -- other slots are not reached
+  -- no other slot is reached
   pub slots-out : (N : ℕ) (t : Tree A) → Slots N t → (x : ℕ) → N + N ≤ x + 1 → mult x t ≡ 0
   unfolding Slots mult
   slots-out N empty g x h = refl
@@ -82,11 +82,11 @@ sum-more n f g c d le lc ld apart p q =
     omega (arith, sum-add n f h, sum-same n (λ i. f i + h i) g (λ i l. omega (arith, le i l)), sum-two n h c d lc ld apart)
 
 module _ (dig : ℕ → ℕ → ℕ) (D : ℕ) {A : Type 0} where
-  at-most : (t : Tree A) → (Filled t → nodes t < leaves t) → nodes t ≤ leaves t
+  nodes-le : (t : Tree A) → (Filled t → nodes t < leaves t) → nodes t ≤ leaves t
   unfolding nodes leaves
-  at-most empty f = omega arith
-  at-most (leaf x k v) f = omega arith
-  at-most (node x b s kids) f = omega (arith, f tt)
+  nodes-le empty f = omega arith
+  nodes-le (leaf x k v) f = omega arith
+  nodes-le (node x b s kids) f = omega (arith, f tt)
 
   pub fewer-nodes : (w : ℕ) (q : ℕ → ℕ) (t : Tree A) → Good dig D w q t → Filled t → nodes t < leaves t
   unfolding Good nodes leaves
@@ -96,7 +96,7 @@ module _ (dig : ℕ → ℕ → ℕ) (D : ℕ) {A : Type 0} where
       let ih : (c : ℕ) → c < 16 → Filled (kids c) → nodes (kids c) < leaves (kids c) = λ c l. fewer-nodes (b + 1) (upd (dig s) b c) (kids c) (g .3 c l) in
       omega (
         arith,
-        sum-more 16 (λ c. nodes (kids c)) (λ c. leaves (kids c)) (g .4 .c) (g .4 .d) (λ c l. at-most (kids c) (ih c l))
+        sum-more 16 (λ c. nodes (kids c)) (λ c. leaves (kids c)) (g .4 .c) (g .4 .d) (λ c l. nodes-le (kids c) (ih c l))
             (g .4 .c<) (g .4 .d<) (g .4 .apart) (ih (g .4 .c) (g .4 .c<) (g .4 .at-c)) (ih (g .4 .d) (g .4 .d<) (g .4 .at-d)),
       )
 
@@ -110,16 +110,16 @@ free (suc n) f h = go (free n f) (f n) refl
     go ih (suc a) e = let (x, l, p) = ih (omega arith) in (x, omega arith, p)
 
 module _ (f : ℕ → ℕ) (le : (i : ℕ) → f i ≤ 1) where
-  at-most-all : (n : ℕ) → sum n f ≤ n
-  at-most-all zero = omega arith
-  at-most-all (suc n) = omega (arith, at-most-all n, le n)
+  pub sum-le : (n : ℕ) → sum n f ≤ n
+  sum-le zero = omega arith
+  sum-le (suc n) = omega (arith, sum-le n, le n)
 
   less-if-free : (n x : ℕ) → x < n → sum n f + 1 ≤ n + f x
   less-if-free zero x l = absurd (omega arith)
   less-if-free (suc n) x l = go (less-if-free n x) (last? x n l)
     where
       go : (x < n → sum n f + 1 ≤ n + f x) → (x ≡ n) ⊎ (x < n) → sum n f + f n + 1 ≤ suc n + f x
-      go ih (inl e) = rw e (omega (arith, at-most-all n))
+      go ih (inl e) = rw e (omega (arith, sum-le n))
       go ih (inr o) = omega (arith, ih o, le n)
 
   pub full : (n : ℕ) → n ≤ sum n f → (x : ℕ) → x < n → f x ≡ 1

@@ -1,7 +1,6 @@
--- Stores touch their words and no others; a block leaves its values; the parts that a cut leaves.
--- Assumes nothing.
+-- Stores touch their words and no others; a block leaves its values; the parts that a cut leaves. Rests on updates. Assumes nothing.
 use mathlib.Core.Path.{_≡_, refl, ap, _∙_}
-use mathlib.Core.Logic.{_≢_}
+use mathlib.Core.Logic.{_≢_, _⊎_, inl, inr}
 use Prim.Native.Nat.{ℕ, zero, suc, _+_, _≤_, _<_}
 use mathlib.Core.List.{List, [], _∷_, _++_}
 use native.Mathlib.Omega.{arith}
@@ -51,11 +50,14 @@ run-append (s ∷ σ) τ m = run-append σ τ (upd m (s .word) (s .value))
 pub block-off : (a : ℕ) (vs : List ℕ) (m : Mem) (j : ℕ) → ((i : ℕ) → a ≤ i → i < a + length vs → j ≢ i) → run (block a vs) m j ≡ m j
 block-off a vs m j h = run-off (block a vs) m j (words-block (λ i. j ≢ i) a vs h)
 
+pub block-first : (a v : ℕ) (vs : List ℕ) (m : Mem) → run (block a (v ∷ vs)) m a ≡ v
+unfolding run block
+block-first a v vs m = block-off (a + 1) vs (upd m a v) a (λ i p q z. omega arith) ∙ upd-at m a v
+
 pub block-at : (a : ℕ) (vs : List ℕ) (m : Mem) (i : ℕ) → i < length vs → run (block a vs) m (a + i) ≡ getD vs i 0
 unfolding run block
 block-at a [] m i h = absurd (omega arith)
-block-at a (v ∷ vs) m zero h =
-    rw (add-zero a) (block-off (a + 1) vs (upd m a v) a (λ i p q z. omega arith) ∙ upd-at m a v)
+block-at a (v ∷ vs) m zero h = rw (add-zero a) (block-first a v vs m)
 block-at a (v ∷ vs) m (suc i) h =
     let e : a + suc i ≡ a + 1 + i = omega arith in
     rw e (block-at (a + 1) vs (upd m a v) i (omega arith))
@@ -80,6 +82,13 @@ part-all (s ∷ σ) = made (part-all σ)
 pub part-none : (σ : List Store) → Part σ []
 part-none [] = done
 part-none (s ∷ σ) = lost (part-none σ)
+
+pub part-nil : (τ : List Store) → Part [] τ → τ ≡ []
+part-nil τ done = refl
+
+pub part-one : (s : Store) (τ : List Store) → Part (s ∷ []) τ → (τ ≡ []) ⊎ (τ ≡ s ∷ [])
+part-one s τ (made {τ = τ′} p) = inr (ap (s ∷_) (part-nil τ′ p))
+part-one s τ (lost p) = inl (part-nil τ p)
 
 -- a prefix is a part
 pub part-take : (n : ℕ) (σ : List Store) → Part σ (take n σ)

@@ -1,5 +1,4 @@
--- The walk on the pool is the walk on the tree, and its leaf decides.
--- Assumes nothing.
+-- The walk on the pool is the walk on the tree, and its leaf decides. Rests on what it is to hold a tree. Assumes nothing.
 use mathlib.Core.Path.{_≡_, refl}
 use Prim.Native.Nat.{ℕ, zero, suc, _+_, _≤_, _<_}
 use native.Mathlib.Omega.{arith}

@@ -1,4 +1,5 @@
 pub mod Tree
+pub mod Changes
 pub mod Shape
 pub mod Stores
 pub mod Listing

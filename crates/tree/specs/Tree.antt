@@ -22,17 +22,17 @@ abbrev pub one : Bool → ℕ
 one true = 1
 one false = 0
 
--- how often x stands in a list
-unfoldable pub occurs : ℕ → List ℕ → ℕ
-occurs x [] = 0
-occurs x (y ∷ l) = one (eqb x y) + occurs x l
-
 -- A slot is named by its byte number in the map. A leaf: slot, key, value. A node: slot, branch place b, a key whose first b digits are those
 -- of every key below, and the child at each digit.
 pub data Tree (A : Type 0) : Type 0 where
   empty : Tree A
   leaf : ℕ → ℕ → A → Tree A
   node : ℕ → ℕ → ℕ → (ℕ → Tree A) → Tree A
+
+-- A place in a tree is the list of the digits that lead to it.
+pub data On {A : Type 0} : List ℕ → Tree A → Type 0 where
+  here : {t : Tree A} → On [] t
+  down : {c x b s : ℕ} {kids : ℕ → Tree A} {π : List ℕ} → c < 16 → On π (kids c) → On (c ∷ π) (node x b s kids)
 
 module _ {A : Type 0} where
   abbrev pub Filled : Tree A → Type 0
@@ -57,13 +57,6 @@ module _ {A : Type 0} where
   nodes (leaf x k v) = 0
   nodes (node x b s kids) = 1 + sum 16 (λ c. nodes (kids c))
 
-  -- a place in a tree is the list of the digits that lead to it
-  unfoldable pub On : List ℕ → Tree A → Type 0
-  On [] t = Unit {0}
-  On (c ∷ π) empty = ⊥
-  On (c ∷ π) (leaf x k v) = ⊥
-  On (c ∷ π) (node x b s kids) = (c < 16) × On π (kids c)
-
   -- what stands at a place
   unfoldable pub sub : List ℕ → Tree A → Tree A
   sub [] t = t
@@ -84,6 +77,11 @@ module _ {A : Type 0} where
   dep (c ∷ π) w empty = w
   dep (c ∷ π) w (leaf x k v) = w
   dep (c ∷ π) w (node x b s kids) = dep π (b + 1) (kids c)
+
+-- u stands at the place π of t
+pub record Stands {A : Type 0} (π : List ℕ) (u t : Tree A) : Type 0 where
+  pub on : On π t
+  pub is : sub π t ≡ u
 
 -- at least two children
 pub record Two {A : Type 0} (kids : ℕ → Tree A) : Type 0 where
@@ -119,3 +117,10 @@ module _ (dig : ℕ → ℕ → ℕ) where
   Good D w q empty = Unit {0}
   Good D w q (leaf x k v) = Agree w q k
   Good D w q (node x b s kids) = (w ≤ b) × (b < D) × Agree w q s × ((c : ℕ) → c < 16 → Good D (b + 1) (upd (dig s) b c) (kids c)) × Two kids
+
+  -- k has the digits that lead to the place π of a whole tree, and u is good there
+  abbrev pub Leads : {A : Type 0} → List ℕ → Tree A → ℕ → Type 0
+  Leads π t k = Agree (dep π 0 t) (pre π (λ i. 0) t) k
+
+  abbrev pub GoodAt : {A : Type 0} → ℕ → List ℕ → Tree A → Tree A → Type 0
+  GoodAt D π t u = Good D (dep π 0 t) (pre π (λ i. 0) t) u

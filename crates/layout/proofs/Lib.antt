@@ -1,0 +1,9 @@
+pub mod Base
+pub mod Held
+pub mod Changes
+pub mod Headers
+pub mod Puts
+pub mod Splits
+pub mod Deletes
+pub mod Cuts
+pub mod Room

@@ -1,0 +1,141 @@
+-- Puts that make no node: the value of a held key, and a leaf in an empty place. And what every put that switches a reference has in common.
+-- Rests on the laws of one store. Assumes nothing.
+use mathlib.Core.Path.{_≡_, refl, sym, ap, _∙_, subst}
+use mathlib.Core.Logic.{_≢_, _⊎_, inl, inr}
+use Prim.Native.Nat.{ℕ, _+_, _-_, _*_, _≤_, _<_}
+use mathlib.Core.List.{List, [], _∷_, _++_}
+use native.Mathlib.Omega.{arith}
+use Rattle.digits.specs.Digits.{digitIn}
+use Rattle.digits.proofs.Digits.{digit-lt}
+use Rattle.pool.specs.Places.{leafWord, childWord, leafRef}
+use Rattle.tree.specs.Tree.{Tree, empty, leaf, node, upd, one, mult, Filled, On, here, sub, plug, dep, Stands, Agree, Leads, Good, GoodAt}
+use Rattle.tree.specs.Changes.{occurs, Adds}
+use Rattle.tree.specs.Shape.{leaf-there, Mem, Holds}
+use Rattle.tree.specs.Stores.{Store, run, Part}
+use Rattle.tree.proofs.Basics.{Same?, same, other, same?, less?, upd-at, upd-off, one-at}
+use Rattle.tree.proofs.Places.{Child, child, agree-down, good-plug}
+use Rattle.tree.proofs.Stores.{Words, words-part, words-more, words-block, run-off, run-append, block-first, block-at, part-all, part-nil}
+use Rattle.tree.proofs.Put.{adds-below, value-adds, leaf-adds}
+use Rattle.layout.specs.Layout.{own, base, Held, refAt}
+use Rattle.layout.specs.Operations.{store, leafStores, Puts}
+use Rattle.layout.proofs.Base.{ref-leaf, SeesLeaf, sees, leaf-seen, own-root, own-leaf}
+use Rattle.layout.proofs.Held.{held, ref-child, good-at, leaf-slot}
+use Rattle.layout.proofs.Changes.{kept, amended, switched}
+
+-- slots that a tree does not reach
+abbrev pub Free : Tree ℕ → List ℕ → Type 0
+Free t [] = Unit {0}
+Free t (x ∷ l) = (mult x t ≡ 0) × Free t l
+
+free-occurs : (t : Tree ℕ) (l : List ℕ) (x : ℕ) → Free t l → 0 < occurs x l → mult x t ≡ 0
+unfolding occurs
+free-occurs t [] x f h = absurd (omega arith)
+free-occurs t (y ∷ l) x f h = go (same? x y) (free-occurs t l x (f .1))
+  where
+    go : Same? x y → (0 < occurs x l → mult x t ≡ 0) → mult x t ≡ 0
+    go (same e p) ih = rw e (f .0)
+    go (other n p) ih = ih (omega (arith, ap one p))
+
+-- a word of such a slot
+abbrev pub Fresh : ℕ → Tree ℕ → ℕ → Type 0
+Fresh N t i = (own N i < 2 * N) × (mult (own N i) t ≡ 0)
+
+module _ (D N : ℕ) (m : Mem) (t : Tree ℕ) (H : Held D N m t) where
+  -- ---- whichever stores to such words are made, the tree is as it was
+  pub fresh-kept : (σ τ : List Store) → Words (Fresh N t) σ → Part σ τ → Held D N (run τ m) t
+  fresh-kept σ τ w p =
+      kept D N m t H (run τ m) (λ i h. run-off τ m i (words-more (Fresh N t) (λ o. i ≢ o) τ (λ o f. apart i h o f) (words-part (Fresh N t) σ τ p w)))
+    where
+      apart : (i : ℕ) → (i ≡ 1) ⊎ (0 < mult (own N i) t) → (o : ℕ) → Fresh N t o → i ≢ o
+      apart i (inl e) o f z = omega (arith, own-root N, ap (own N) (sym z ∙ e), f .0)
+      apart i (inr h) o f z = omega (arith, f .1, ap (λ i. mult (own N i) t) z)
+
+  -- ---- the reference of a place switched to u, which has been made ready
+  pub puts : (k v : ℕ) (taken : List ℕ) (π : List ℕ) (r : ℕ) (u : Tree ℕ) (σ : List Store) → On π t → Leads (digitIn D) π t k → Free t taken
+      → ((τ : List Store) → Part σ τ → Held D N (run τ m) t)
+      → Holds (base D N) (run σ m) (dep π 0 t) r u → Filled u → GoodAt (digitIn D) D π t u → Adds (digitIn D) k v taken (sub π t) u
+      → Puts D N m t k v σ (store (refAt N 1 π t) r) taken
+  unfolding run
+  puts k v taken π r u σ on leads free before ready filled good adds = record {
+    before = before;
+    after = plug π t u;
+    since = λ τ p.
+        rw (part-nil τ p, run-append σ (store (refAt N 1 π t) r ∷ []) m)
+        (held D N (upd (run σ m) (refAt N 1 π t) r) (plug π t u)
+        (switched D N (run σ m) t (before σ (part-all σ)) r u π on ready apart)
+        (good-plug (digitIn D) D π 0 (λ i. 0) t u on (H .good) filled good));
+    becomes = adds-below (digitIn D) D k v taken π t u on (H .good) leads adds;
+  }
+    where
+      -- a slot of u is new, or was at the place
+      apart : (x : ℕ) → 0 < mult x u → mult x t ≤ mult x (sub π t)
+      apart x h = go (less? 0 (occurs x taken))
+        where
+          go : (0 < occurs x taken) ⊎ (occurs x taken ≤ 0) → mult x t ≤ mult x (sub π t)
+          go (inl o) = omega (arith, free-occurs t taken x free o)
+          go (inr o) = omega (arith, adds .slots x, H .once x)
+
+  -- ---- the value of a held key
+  pub puts-value : (k v x v₀ : ℕ) (π : List ℕ) → Stands π (leaf x k v₀) t → Puts D N m t k v [] (store (leafWord x + 1) v) []
+  unfolding run mult Good Holds
+  puts-value k v x v₀ π p =
+      let i : ℕ = leafWord x + 1 in
+      let own-i : own N i ≡ x = own-leaf N x i (leaf-slot D N m t H π x k v₀ p) (omega arith) (omega arith) in
+      let leads : Leads (digitIn D) π t k = good-at D N m t H π (leaf x k v₀) p in
+      record {
+        before = λ τ q. rw (part-nil τ q) H;
+        after = plug π t (leaf x k v);
+        since = λ τ q.
+            rw (part-nil τ q)
+            (held D N (upd m i v) (plug π t (leaf x k v))
+            (amended D N m t H π (p .on) i v (leaf x k v) (rw own-i (omega (arith, ap (mult x) (p .is), one-at x)))
+            (λ r g. value-changed r (subst (Holds (base D N) m (dep π 0 t) r) (p .is) g)))
+            (good-plug (digitIn D) D π 0 (λ i. 0) t (leaf x k v) (p .on) (H .good) tt leads));
+        becomes =
+            adds-below (digitIn D) D k v [] π t (leaf x k v) (p .on) (H .good) leads
+            (subst (λ u. Adds (digitIn D) k v [] u (leaf x k v)) (sym (p .is)) (value-adds (digitIn D) x k v v₀));
+      }
+    where
+      value-changed : (r : ℕ) → base D N .view m r ≡ leaf-there x k v₀ → base D N .view (upd m (leafWord x + 1) v) r ≡ leaf-there x k v
+      value-changed r e =
+          let s : SeesLeaf N m r x k v₀ = sees D N m r (leaf-there x k v₀) e in
+          leaf-seen D N (upd m (leafWord x + 1) v) r x k v (record {
+            ref = s .ref;
+            within = s .within;
+            key = upd-off m (leafWord x + 1) v (leafWord x) (λ z. omega arith) ∙ s .key;
+            value = upd-at m (leafWord x + 1) v;
+          })
+
+  -- ---- a new leaf
+  module _ (cap : N ≤ 1024) (k v z : ℕ) (zn : z < N) (zf : mult z t ≡ 0) where
+    pub leaf-fresh : Words (Fresh N t) (leafStores z k v)
+    leaf-fresh = words-block (Fresh N t) (leafWord z) (k ∷ v ∷ []) (λ i a b. let e : own N i ≡ z = own-leaf N z i zn a b in rw e (omega arith, zf))
+
+    pub leaf-made : (m′ : Mem) → m′ (leafWord z) ≡ k → m′ (leafWord z + 1) ≡ v → base D N .view m′ (leafRef z) ≡ leaf-there z k v
+    leaf-made m′ a b = leaf-seen D N m′ (leafRef z) z k v (record { ref = ref-leaf N z zn cap; within = zn; key = a; value = b })
+
+    -- in an empty place
+    pub puts-leaf : (π : List ℕ) → Stands π empty t → Leads (digitIn D) π t k
+        → Puts D N m t k v (leafStores z k v) (store (refAt N 1 π t) (leafRef z)) (z ∷ [])
+    unfolding Good Holds
+    puts-leaf π p leads =
+        puts k v (z ∷ []) π (leafRef z) (leaf z k v) (leafStores z k v) (p .on) leads (zf, tt)
+        (λ τ q. fresh-kept (leafStores z k v) τ leaf-fresh q)
+        (leaf-made (run (leafStores z k v) m) (block-first (leafWord z) k (v ∷ []) m) (block-at (leafWord z) (k ∷ v ∷ []) m 1 (omega arith)))
+        tt leads
+        (subst (λ u. Adds (digitIn D) k v (z ∷ []) u (leaf z k v)) (sym (p .is)) (leaf-adds (digitIn D) z k v))
+
+    -- which is the root
+    pub puts-root : t ≡ empty → Puts D N m t k v (leafStores z k v) (store 1 (leafRef z)) (z ∷ [])
+    unfolding refAt sub dep
+    puts-root e = puts-leaf [] (record { on = here; is = e }) (λ i h. absurd (omega arith))
+
+    -- or the child, at k's digit, of a node whose keys begin as k
+    pub puts-child : (ρ : List ℕ) (x b s : ℕ) (kids : ℕ → Tree ℕ) → Stands ρ (node x b s kids) t → Agree (digitIn D) b (digitIn D s) k
+        → kids (digitIn D k b) ≡ empty → Puts D N m t k v (leafStores z k v) (store (childWord N (x - N) (digitIn D k b)) (leafRef z)) (z ∷ [])
+    puts-child ρ x b s kids p agree e =
+        let c : ℕ = digitIn D k b in
+        let C : Child (digitIn D) ρ c x b s kids t = child (digitIn D) ρ c x b s kids t (digit-lt D k b) p in
+        subst (λ i. Puts D N m t k v (leafStores z k v) (store i (leafRef z)) (z ∷ [])) (ref-child D N ρ c x b s kids t p)
+        (puts-leaf (ρ ++ c ∷ []) (record { on = C .stands .on; is = C .stands .is ∙ e })
+        (rw (C .dep-is 0, C .pre-is (λ i. 0)) (agree-down (digitIn D) b c s k agree refl)))

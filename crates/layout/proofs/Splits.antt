@@ -1,0 +1,196 @@
+-- Puts that make a node: the split of a leaf and the split of a node.
+-- Rests on what every put has in common, on the laws of headers and on the split tree. Assumes nothing.
+use mathlib.Core.Path.{_≡_, refl, sym, ap, _∙_, subst}
+use mathlib.Core.Logic.{_≢_}
+use Prim.Native.Nat.{ℕ, suc, _+_, _-_, _≤_, _<_}
+use mathlib.Core.List.{List, [], _∷_, _++_}
+use native.Mathlib.Omega.{arith}
+use Rattle.digits.specs.Digits.{digitIn}
+use Rattle.digits.specs.Headers.{storedIn, headerIn}
+use Rattle.digits.proofs.Digits.{digit-lt}
+use Rattle.pool.specs.Places.{leafWord, nodeWord, childWord, leafRef, nodeRef}
+use Rattle.pool.specs.declared.Ref.the-variants.{Node}
+use Rattle.tree.specs.Tree.{Tree, leaf, node, upd, mult, On, sub, dep, pre, Stands, Agree, Leads, Good, GoodAt}
+use Rattle.tree.specs.Shape.{leaf-there, Mem, Holds}
+use Rattle.tree.specs.Stores.{Store, run, block, tab, Part}
+use Rattle.tree.proofs.Basics.{upd-at, upd-off, one-at}
+use Rattle.tree.proofs.Places.{sub-mult}
+use Rattle.tree.proofs.Near.{Past}
+use Rattle.tree.proofs.Stores.{Words, words-more, words-append, words-block, run-off, run-append, block-off, block-first, block-at, length-tab, tab-at, part-all, part-nil, part-append}
+use Rattle.tree.proofs.Put.{past-filled, past-good, splitTree, split-holds, split-filled, split-good, split-adds}
+use Rattle.layout.specs.Layout.{own, headView, base, Held, refAt}
+use Rattle.layout.specs.Operations.{store, leafStores, headerStore, splitChildren, splitStores, Puts}
+use Rattle.layout.proofs.Base.{ref-node, SeesNode, node-seen, none-seen, own-leaf, own-node, own-slot}
+use Rattle.layout.proofs.Held.{sub-holds, holds-at, good-at, node-slot}
+use Rattle.layout.proofs.Changes.{ref-owner}
+use Rattle.layout.proofs.Headers.{header-view, header-at, header-kept}
+use Rattle.layout.proofs.Puts.{Fresh, fresh-kept, leaf-fresh, leaf-made, puts}
+
+module _ (D N : ℕ) (m : Mem) (t : Tree ℕ) (H : Held D N m t) (d : D ≤ 256) (cap : N ≤ 1024)
+    (k v z : ℕ) (zn : z < N) (zf : mult z t ≡ 0) (j : ℕ) (jn : j + 1 < N) (jf : mult (N + j) t ≡ 0)
+    (π : List ℕ) (on : On π t) (leads : Leads (digitIn D) π t k)
+    (k₂ f : ℕ) (fD : f < D) (deep : dep π 0 t ≤ f) (before : (i : ℕ) → i < f → digitIn D k i ≡ digitIn D k₂ i)
+    (differ : digitIn D k f ≢ digitIn D k₂ f) where
+  -- the walk depth and the reference of the place, and the two digits
+  abbrev w : ℕ
+  w = dep π 0 t
+
+  abbrev q : ℕ
+  q = refAt N 1 π t
+
+  abbrev a : ℕ
+  a = digitIn D k f
+
+  abbrev c : ℕ
+  c = digitIn D k₂ f
+
+  -- ---- the stores to the new leaf and the new node
+  abbrev children : ℕ → ℕ
+  children = splitChildren D f k k₂ z (m q)
+
+  abbrev words : List ℕ
+  words = headerIn D w (f - w) k ∷ tab 16 children
+
+  abbrev first : List Store
+  first = leafStores z k v ++ block (nodeWord N j) words
+
+  first-fresh : Words (Fresh N t) first
+  first-fresh =
+      words-append (Fresh N t) (leafStores z k v) (block (nodeWord N j) words) (leaf-fresh D N m t H cap k v z zn zf)
+      (words-block (Fresh N t) (nodeWord N j) words (λ i x y.
+      let e : own N i ≡ N + j = own-node N j i x (omega (arith, length-tab 16 children)) in
+      rw e (omega arith, jf)))
+
+  first-kept : (τ : List Store) → Part first τ → Held D N (run τ m) t
+  first-kept τ p = fresh-kept D N m t H first τ first-fresh p
+
+  -- the reference is not among their words
+  q-kept : run first m q ≡ m q
+  q-kept =
+      run-off first m q
+      (words-more (Fresh N t) (λ o. q ≢ o) first (λ o h e. ref-owner D N m t H π on (own N o) (h .0) (omega (arith, h .1)) (ap (own N) e)) first-fresh)
+
+  -- what they leave
+  node-after : (i : ℕ) → run first m i ≡ run (block (nodeWord N j) words) (run (leafStores z k v) m) i
+  node-after i = ap (λ m′. m′ i) (run-append (leafStores z k v) (block (nodeWord N j) words) m)
+
+  at-leaf : (i : ℕ) → i < nodeWord N j → run first m i ≡ run (leafStores z k v) m i
+  at-leaf i h = node-after i ∙ block-off (nodeWord N j) words (run (leafStores z k v) m) i (λ o x y e. omega arith)
+
+  at-header : run first m (nodeWord N j) ≡ headerIn D w (f - w) k
+  at-header = node-after (nodeWord N j) ∙ block-first (nodeWord N j) (headerIn D w (f - w) k) (tab 16 children) (run (leafStores z k v) m)
+
+  at-child : (i : ℕ) → i < 16 → run first m (childWord N j i) ≡ children i
+  at-child i l =
+      let e : childWord N j i ≡ nodeWord N j + suc i = omega arith in
+      node-after (childWord N j i)
+      ∙ ap (run (block (nodeWord N j) words) (run (leafStores z k v) m)) e
+      ∙ block-at (nodeWord N j) words (run (leafStores z k v) m) (suc i) (omega (arith, length-tab 16 children))
+      ∙ tab-at 16 children i l
+
+  -- ---- the split of what stands at the place, `target` being the stores that ready it for its new walk depth
+  module _ (past : Past (digitIn D) f k₂ (sub π t)) (target : List Store)
+      (keeps : (m′ : Mem) → Held D N m′ t → (τ : List Store) → Part target τ → Held D N (run τ m′) t)
+      (readies : (m′ : Mem) → Held D N m′ t → Holds (base D N) (run target m′) (f + 1) (m′ q) (sub π t))
+      (within : Words (λ i. 0 < mult (own N i) t) target) where
+    abbrev m₁ : Mem
+    m₁ = run (first ++ target) m
+
+    abbrev new : Tree ℕ
+    new = splitTree (digitIn D) (N + j) f z k v c (sub π t)
+
+    cut : (τ : List Store) → Part (first ++ target) τ → Held D N (run τ m) t
+    cut τ p =
+        let (τ₁, τ₂, p₁, p₂, e) = part-append first target τ p in
+        rw (e, run-append τ₁ τ₂ m) (keeps (run τ₁ m) (first-kept τ₁ p₁) τ₂ p₂)
+
+    -- what the first stores left is there still
+    left : (i : ℕ) → mult (own N i) t ≡ 0 → m₁ i ≡ run first m i
+    left i h =
+        ap (λ m′. m′ i) (run-append first target m)
+        ∙ run-off target (run first m) i
+        (words-more (λ i. 0 < mult (own N i) t) (λ o. i ≢ o) target (λ o p e. omega (arith, ap (λ i. mult (own N i) t) e)) within)
+
+    leaf-word : (i : ℕ) → leafWord z ≤ i → i < leafWord z + 2 → m₁ i ≡ run (leafStores z k v) m i
+    leaf-word i x y = left i (ap (λ x. mult x t) (own-leaf N z i zn x y) ∙ zf) ∙ at-leaf i (omega arith)
+
+    node-word : (i : ℕ) → nodeWord N j ≤ i → i < nodeWord N j + 17 → m₁ i ≡ run first m i
+    node-word i x y = left i (ap (λ x. mult x t) (own-node N j i x y) ∙ jf)
+
+    new-leaf : base D N .view m₁ (leafRef z) ≡ leaf-there z k v
+    new-leaf =
+        leaf-made D N m t H cap k v z zn zf m₁
+        (leaf-word (leafWord z) (omega arith) (omega arith) ∙ block-first (leafWord z) k (v ∷ []) m)
+        (leaf-word (leafWord z + 1) (omega arith) (omega arith) ∙ block-at (leafWord z) (k ∷ v ∷ []) m 1 (omega arith))
+
+    back : N + j - N ≡ j
+    back = omega arith
+
+    new-node : SeesNode D N m₁ (nodeRef j) (N + j) w f (storedIn D 12 w (f - w) k)
+    new-node = record {
+      ref = ref-node N j jn cap ∙ ap Node (sym back);
+      low = omega arith;
+      high = omega arith;
+      head =
+          ap (λ i. headView D (N + j) (m₁ (nodeWord N i))) back
+          ∙ ap (headView D (N + j)) (node-word (nodeWord N j) (omega arith) (omega arith) ∙ at-header)
+          ∙ header-view D (N + j) w f k d deep fD;
+    }
+
+    new-child : (i : ℕ) → i < 16 → m₁ (childWord N (N + j - N) i) ≡ children i
+    new-child i l = ap (λ o. m₁ (childWord N o i)) back ∙ node-word (childWord N j i) (omega arith) (omega arith) ∙ at-child i l
+
+    old-target : Holds (base D N) m₁ (f + 1) (m q) (sub π t)
+    old-target =
+        rw (run-append first target m)
+        (subst (λ r. Holds (base D N) (run target (run first m)) (f + 1) r (sub π t)) q-kept (readies (run first m) (first-kept first (part-all first))))
+
+    new-holds : Holds (base D N) m₁ w (nodeRef j) new
+    unfolding base
+    new-holds =
+        split-holds (digitIn D) (digit-lt D) (N + j) f z k v c (digit-lt D k₂ f) differ (sub π t) (base D N) m₁ w (nodeRef j)
+        (record { h = w; low = omega arith; high = deep; there = node-seen D N m₁ (nodeRef j) (N + j) w f (storedIn D 12 w (f - w) k) new-node })
+        (ap (base D N .view m₁) (new-child a (digit-lt D k f) ∙ upd-at (upd (λ i. 0) c (m q)) a (leafRef z)) ∙ new-leaf)
+        (subst (λ r. Holds (base D N) m₁ (f + 1) r (sub π t))
+        (sym (new-child c (digit-lt D k₂ f) ∙ upd-off (upd (λ i. 0) c (m q)) a (leafRef z) c (λ e. differ (sym e)) ∙ upd-at (λ i. 0) c (m q))) old-target)
+        (λ i l x y. ap (base D N .view m₁) (new-child i l ∙ upd-off (upd (λ i. 0) c (m q)) a (leafRef z) i x ∙ upd-off (λ i. 0) c (m q) i y) ∙ none-seen D N m₁)
+
+    target-good : Good (digitIn D) D (f + 1) (upd (digitIn D k) f c) (sub π t)
+    target-good =
+        past-good (digitIn D) D w f k k₂ (pre (digitIn D) π (λ i. 0) t) (sub π t)
+        (good-at D N m t H π (sub π t) (record { on = on; is = refl })) past (λ i h. sym (before i h))
+
+    new-good : GoodAt (digitIn D) D π t new
+    new-good =
+        split-good (digitIn D) (digit-lt D) (N + j) f z k v c (digit-lt D k₂ f) differ (sub π t) D w (pre (digitIn D) π (λ i. 0) t) deep fD leads
+        (past-filled (digitIn D) f k₂ (sub π t) past) target-good
+
+    splits : Puts D N m t k v (splitStores D N w f k v k₂ z j (m q) target) (store q (nodeRef j)) (z ∷ (N + j) ∷ [])
+    splits =
+        puts D N m t H k v (z ∷ (N + j) ∷ []) π (nodeRef j) new (first ++ target) on leads (zf, (jf, tt)) cut new-holds
+        (split-filled (digitIn D) (digit-lt D) (N + j) f z k v c (digit-lt D k₂ f) differ (sub π t)) new-good
+        (split-adds (digitIn D) (digit-lt D) (N + j) f z k v c (digit-lt D k₂ f) differ (sub π t) D target-good)
+
+  -- of a leaf, which is held at every walk depth
+  pub puts-split-leaf : (x v₂ : ℕ) → sub π t ≡ leaf x k₂ v₂
+      → Puts D N m t k v (splitStores D N (dep π 0 t) f k v k₂ z j (m (refAt N 1 π t)) []) (store (refAt N 1 π t) (nodeRef j)) (z ∷ (N + j) ∷ [])
+  unfolding run Holds Words
+  puts-split-leaf x v₂ is =
+      splits (rw is refl) []
+      (λ m′ H′ τ p. rw (part-nil τ p) H′)
+      (λ m′ H′. rw is (holds-at D N m′ t H′ π (leaf x k₂ v₂) (record { on = on; is = is })))
+      tt
+
+  -- of a node, whose own header comes before the switch: the node is stale till then
+  pub puts-split-node : (x b s : ℕ) (kids : ℕ → Tree ℕ) → sub π t ≡ node x b s kids → f < b → Agree (digitIn D) b (digitIn D s) k₂
+      → Puts D N m t k v (splitStores D N (dep π 0 t) f k v k₂ z j (m (refAt N 1 π t)) (headerStore D N (x - N) (f + 1) b k₂ ∷ []))
+      (store (refAt N 1 π t) (nodeRef j)) (z ∷ (N + j) ∷ [])
+  unfolding run Words mult
+  puts-split-node x b s kids is fb agree =
+      let p : Stands π (node x b s kids) t = record { on = on; is = is } in
+      let own-x : own N (nodeWord N (x - N)) ≡ x = own-slot N x (nodeWord N (x - N)) ((node-slot D N m t H π x b s kids p) .0) (omega arith) (omega arith) in
+      splits (rw is (fb, agree)) (headerStore D N (x - N) (f + 1) b k₂ ∷ [])
+      (λ m′ H′ τ o. header-kept D N d m′ t H′ π x b s kids p (f + 1) k₂ (omega arith) agree (omega arith) τ o)
+      (λ m′ H′.
+      header-at D N d m′ t H′ π x b s kids p (f + 1) k₂ (omega arith) agree (f + 1) (m′ q) (omega arith) (sub-holds D N m′ π 0 1 t on (H′ .holds)))
+      (rw own-x (omega (arith, ap (mult x) is, one-at x, sub-mult π t x on)), tt)
