@@ -1,7 +1,6 @@
 // Ways down the tree: the walk along a key, the lowest leaf below a reference, a node's children.
 ghost use mathlib.Core.Path.{_≡_};
-ghost use Prim.Native.Nat.{ℕ, _+_, _<_, _≤_};
-ghost use lib.ListN.{length};
+ghost use Prim.Native.Nat.{_+_, _<_, _≤_};
 ghost use Rattle.pool.specs.Sizes.{Sized};
 ghost use Rattle.pool.specs.Refs.{Within};
 ghost use Rattle.walk.specs.Walks.{headOf, Between, root, below, endOf, walkTo, walkOf, childrenOf, lowestChild, otherChild, lowestEnd, lowestOf};
