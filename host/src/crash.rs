@@ -1,0 +1,152 @@
+//! Demand 3 by chance: long sequences of puts and deletes on one pool. Before each goes on, it is cut at every store,
+//! and the opening after it at every store; then it is finished or cut for good.
+
+use crate::answers::*;
+use crate::chance::Chance;
+use crate::pools;
+use crate::table::{lists_as, opens_as, reads_as, store_of_open, Operation, Table};
+
+/// A pool, its map, and the table it must read as.
+pub struct Crash<'a, C: Calls> {
+    calls: &'a C,
+    chance: Chance,
+    n: usize,
+    keys: Vec<u64>,
+    pool: Vec<u64>,
+    map: Vec<u8>,
+    table: Table,
+    /// Pools that were read and held against the table.
+    pub pools: u64,
+}
+
+impl<'a, C: Calls> Crash<'a, C> {
+    pub fn new(calls: &'a C, seed: u64, n: usize) -> Self {
+        let mut chance = Chance::new(seed);
+        let keys = pools::keys(&mut chance, n + 3);
+        let mut pool: Vec<u64> = (0..pool_words(n)).map(|_| chance.word()).collect();
+        let mut map = vec![1; map_bytes(n)];
+        assert_eq!(calls.format(&mut pool, &mut map, n as u64), DONE);
+        Crash { calls, chance, n, keys, pool, map, table: Table::new(), pools: 0 }
+    }
+
+    /// Puts every key for which there is room.
+    pub fn fill(&mut self) {
+        for key in self.keys.clone() {
+            let operation = Operation::Put(key, self.chance.word());
+            let planned = operation.plan(self.calls, &self.pool, &self.map);
+            if planned.number == DONE {
+                self.whole_call(operation, &planned).expect("a finished put");
+            }
+        }
+    }
+
+    /// One operation: all its cuts on copies, then one outcome for good.
+    pub fn operation(&mut self) -> Result<(), String> {
+        let operation = self.some_operation();
+        let planned = operation.plan(self.calls, &self.pool, &self.map);
+        let wanted = operation.number(&self.table, self.n);
+        if planned.number != wanted {
+            return Err(format!("{operation:?} gives {}, not {wanted}", planned.number));
+        }
+        let count = planned.plan[PLAN_COUNT];
+        let mut cut = self.pool.clone();
+        for made in 0..=count {
+            self.read_cut(&cut, &self.table_after(operation, made, count))
+                .map_err(|what| format!("{operation:?} cut after {made} of {count}: {what}"))?;
+            if made < count && self.calls.step(&mut cut, &planned.plan, made) != DONE {
+                return Err(format!("{operation:?}: step {made} of {count} is refused"));
+            }
+        }
+        self.go_on(operation, &planned)
+    }
+
+    fn some_operation(&mut self) -> Operation {
+        let key = self.chance.pick(&self.keys);
+        match self.chance.below(5) {
+            0 | 1 => Operation::Delete(key),
+            _ => Operation::Put(key, self.chance.word()),
+        }
+    }
+
+    fn table_after(&self, operation: Operation, made: u64, count: u64) -> Table {
+        let mut table = self.table.clone();
+        if operation.counts(made, count) {
+            operation.apply(&mut table);
+        }
+        table
+    }
+
+    /// A cut pool reads as the table; so does every pool its openings leave, and each opens to the same end.
+    fn read_cut(&mut self, cut: &[u64], table: &Table) -> Result<(), String> {
+        let mut end = cut.to_vec();
+        opens_as(self.calls, &mut end, &mut self.map.clone(), table)?;
+        reads_as(self.calls, &end, table, &self.keys)?;
+        let mut pool = cut.to_vec();
+        loop {
+            self.pools += 1;
+            reads_as(self.calls, &pool, table, &self.keys)?;
+            let from = pools::a_key(&mut self.chance, &self.keys);
+            let length = 1 + self.chance.below(self.n);
+            lists_as(self.calls, &pool, table, from, length)?;
+            if !store_of_open(self.calls, &mut pool)? {
+                break;
+            }
+            let mut again = pool.clone();
+            opens_as(self.calls, &mut again, &mut self.map.clone(), table)?;
+            if again != end {
+                return Err("an opening that was cut and begun anew ends elsewhere".into());
+            }
+        }
+        match pool == end {
+            true => Ok(()),
+            false => Err("open stores other than its plans say".into()),
+        }
+    }
+
+    /// Half of the operations are finished, by single steps or by the whole call; half are cut and opened.
+    fn go_on(&mut self, operation: Operation, planned: &Planned) -> Result<(), String> {
+        let count = planned.plan[PLAN_COUNT];
+        let made = match self.chance.below(4) {
+            0 => return self.whole_call(operation, planned),
+            1 => count,
+            _ => self.chance.below(count as usize + 1) as u64,
+        };
+        for at in 0..made {
+            self.calls.step(&mut self.pool, &planned.plan, at);
+        }
+        self.table = self.table_after(operation, made, count);
+        if made == count && self.chance.one_in(2) {
+            self.calls.finish(&mut self.map, &planned.plan);
+            return self.map_is_true();
+        }
+        if self.chance.one_in(2) {
+            store_of_open(self.calls, &mut self.pool)?;
+        }
+        opens_as(self.calls, &mut self.pool, &mut self.map, &self.table).map(|_| ())
+    }
+
+    fn whole_call(&mut self, operation: Operation, planned: &Planned) -> Result<(), String> {
+        let (pool, map) = (&mut self.pool, &mut self.map);
+        let made = match operation {
+            Operation::Put(key, value) => self.calls.put(pool, map, key, value),
+            Operation::Delete(key) => self.calls.delete(pool, map, key),
+        };
+        let count = planned.plan[PLAN_COUNT];
+        if (made.number, made.stores) != (planned.number, count) {
+            return Err(format!("{operation:?}: {made:?}, its plan says {count}"));
+        }
+        self.table = self.table_after(operation, count, count);
+        self.map_is_true()
+    }
+
+    /// A finished operation keeps a map that marks just the slots in use: the one an opening makes.
+    fn map_is_true(&self) -> Result<(), String> {
+        let (mut pool, mut map) = (self.pool.clone(), self.map.clone());
+        opens_as(self.calls, &mut pool, &mut map, &self.table)?;
+        let same = self.map.iter().zip(&map).all(|(kept, fresh)| (*kept != 0) == (*fresh != 0));
+        match same && pool == self.pool {
+            true => Ok(()),
+            false => Err("a finished operation leaves a map that is not true".into()),
+        }
+    }
+}

@@ -1,0 +1,103 @@
+//! The plain table from name number to file number, and whether a pool reads as one.
+
+use crate::answers::*;
+use std::collections::BTreeMap;
+
+pub type Table = BTreeMap<u64, u64>;
+
+/// A put or a delete.
+#[derive(Clone, Copy, Debug, PartialEq, Eq)]
+pub enum Operation {
+    Put(u64, u64),
+    Delete(u64),
+}
+
+impl Operation {
+    pub fn plan(self, calls: &impl Calls, pool: &[u64], map: &[u8]) -> Planned {
+        match self {
+            Operation::Put(key, value) => calls.plan_put(pool, map, key, value),
+            Operation::Delete(key) => calls.plan_delete(pool, key),
+        }
+    }
+
+    /// The number that demand 2 gives on a sound pool of capacity `n` with a true map.
+    pub fn number(self, table: &Table, n: usize) -> u64 {
+        match self {
+            Operation::Put(key, _) if table.len() == n && !table.contains_key(&key) => NO_ROOM,
+            Operation::Delete(key) if !table.contains_key(&key) => ABSENT,
+            Operation::Put(..) | Operation::Delete(_) => DONE,
+        }
+    }
+
+    /// The table once the operation counts.
+    pub fn apply(self, table: &mut Table) {
+        match self {
+            Operation::Put(key, value) => table.insert(key, value),
+            Operation::Delete(key) => table.remove(&key),
+        };
+    }
+
+    /// "A put counts from its last store, a delete from its first."
+    pub fn counts(self, made: u64, of: u64) -> bool {
+        match self {
+            Operation::Put(..) => made > 0 && made == of,
+            Operation::Delete(_) => made > 0,
+        }
+    }
+}
+
+/// Whether lookup and listing equal the table: each key looked up, the whole listed, and every listed name opened.
+pub fn reads_as(calls: &impl Calls, pool: &[u64], table: &Table, keys: &[u64]) -> Result<(), String> {
+    for key in keys {
+        let found = calls.lookup(pool, *key);
+        let wanted = match table.get(key) {
+            Some(value) => (DONE, *value),
+            None => (ABSENT, 0),
+        };
+        if (found.number, found.value) != wanted {
+            return Err(format!("lookup of {key:016x}: {found:?}, the table holds {wanted:?}"));
+        }
+    }
+    lists_as(calls, pool, table, 0, pool[0] as usize)
+}
+
+/// Whether a listing from a key, with buffers of a length, is the table's entries from there.
+pub fn lists_as(calls: &impl Calls, pool: &[u64], table: &Table, from: u64, length: usize) -> Result<(), String> {
+    let (mut keys, mut values) = (vec![0; length], vec![0; length]);
+    let listed = calls.list(pool, from, &mut keys, &mut values);
+    let count = listed.count as usize;
+    let entries = keys.iter().zip(&values).take(count);
+    let same = table.range(from..).take(length).eq(entries);
+    let more = table.range(from..).count() > length;
+    match listed.number == DONE && same && listed.more == u64::from(more) {
+        true => Ok(()),
+        false => Err(format!("listing from {from:016x}, buffers of {length}: {listed:?} {keys:x?}")),
+    }
+}
+
+/// Opens to the end, as it must: 0, every key of the table, a leaf in the map for each, and no stale header left.
+pub fn opens_as(calls: &impl Calls, pool: &mut [u64], map: &mut [u8], table: &Table) -> Result<Opened, String> {
+    map.fill(0xaa);
+    let opened = calls.open(pool, map);
+    if opened.number != DONE || opened.keys != table.len() as u64 {
+        return Err(format!("open: {opened:?}, the table holds {} keys", table.len()));
+    }
+    let leaves = map[..pool[0] as usize].iter().filter(|byte| **byte == 1).count();
+    if leaves != table.len() || map.iter().any(|byte| *byte > 1) {
+        return Err(format!("open: {} keys in the map {map:?}", table.len()));
+    }
+    match store_of_open(calls, &mut pool.to_vec())? {
+        true => Err("open leaves a stale header".into()),
+        false => Ok(opened),
+    }
+}
+
+/// Makes the first store of an opening that is cut there; false if there is none to make.
+pub fn store_of_open(calls: &impl Calls, pool: &mut [u64]) -> Result<bool, String> {
+    let planned = calls.plan_open(pool);
+    match (planned.number, planned.plan[PLAN_COUNT]) {
+        (DONE, 0) => Ok(false),
+        (DONE, 1) if calls.step(pool, &planned.plan, 0) == DONE => Ok(true),
+        _ => Err(format!("plan_open: {planned:?}")),
+    }
+}
