@@ -13,12 +13,12 @@ use Rattle.writing.specs.Puts.{putPlan}
 use Rattle.writing.specs.Deletes.{deletePlan}
 use Rattle.writing.specs.Calls.{Left, putOf, deleteOf}
 use Rattle.opening.specs.Soundness.{Sound}
-use Rattle.demands.specs.Tables.{Table, given, without, Word, Words, Reads, Exact}
+use Rattle.demands.specs.Tables.{Table, given, without, Word, Words, Names, Reads, Exact}
 
--- a pool that is sound, its words and its map in order, and the table that it reads as
+-- a sound pool with an exact map, and the table of names that it reads as
 pub record Reading (pool map : List ℕ) (T : Table) : Type 0 where
   pub sound : Sound pool
-  pub words : Words pool
+  pub names : Names T
   pub exact : Exact pool (sound .n) map
   pub reads : Reads pool T
 
@@ -42,8 +42,8 @@ Full pool map T r k = (T k ≡ none) × (length (r .reads .rows) ≡ r .sound .n
 
 pub record Demand2 (pool map : List ℕ) (T : Table) (r : Reading pool map T) : Type 0 where
   -- put: refused with 4 where all N places are held and the name is new, else done
-  pub put-full : (k v : ℕ) → Word k → Word v → Full pool map T r k → Refused pool map 4 (putOf pool map k v)
-  pub put-done : (k v : ℕ) → Word k → Word v → (Full pool map T r k → ⊥)
+  pub put-full : (k v : ℕ) → Word k → Full pool map T r k → Refused pool map 4 (putOf pool map k v)
+  pub put-done : (k v : ℕ) → Word k → (Full pool map T r k → ⊥)
       → Done pool map (given k v T) (length (putPlan pool map k v .stores)) (made (putPlan pool map k v .stores) pool) (putOf pool map k v)
   -- delete: refused with 3 where the name is not held, else done
   pub delete-absent : (k : ℕ) → Word k → T k ≡ none → Refused pool map 3 (deleteOf pool map k)

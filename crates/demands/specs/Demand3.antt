@@ -17,27 +17,27 @@ use Rattle.plan.specs.Plans.{made, Decided}
 use Rattle.writing.specs.Puts.{putPlan}
 use Rattle.writing.specs.Deletes.{deletePlan}
 use Rattle.writing.specs.Calls.{Left, putOf, deleteOf, formatOf}
-use Rattle.opening.specs.Openings.{openPlan, openOf}
-use Rattle.demands.specs.Tables.{Table, blank, given, without, Word, Words, Reads}
+use Rattle.opening.specs.Openings.{openOf, openSteps}
+use Rattle.demands.specs.Tables.{Table, blank, given, without, Word, Reads}
 use Rattle.demands.specs.Demand2.{Reading}
 
 -- an operation: a put of a file number under a name, or a delete of a name
 pub data Op : Type 0 where
-  put : (k v : ℕ) → Word k → Word v → Op
+  put : (k v : ℕ) → Word k → Op
   delete : (k : ℕ) → Word k → Op
 
 -- its plan, its whole call, and what it does to the plain table
 abbrev pub planned : Op → List ℕ → List ℕ → Decided
-planned (put k v hk hv) pool map = putPlan pool map k v
-planned (delete k hk) pool map = deletePlan pool k
+planned (put k v h) pool map = putPlan pool map k v
+planned (delete k h) pool map = deletePlan pool k
 
 abbrev pub whole : Op → List ℕ → List ℕ → Left
-whole (put k v hk hv) pool map = putOf pool map k v
-whole (delete k hk) pool map = deleteOf pool map k
+whole (put k v h) pool map = putOf pool map k v
+whole (delete k h) pool map = deleteOf pool map k
 
 abbrev pub effect : Op → Table → Table
-effect (put k v hk hv) T = given k v T
-effect (delete k hk) T = without k T
+effect (put k v h) T = given k v T
+effect (delete k h) T = without k T
 
 -- "the stores reaching memory in order": a cut leaves the first n of a plan's stores. What a cut can leave of the stores σ, and whether the
 -- operation then counts, is a parameter of what follows.
@@ -46,22 +46,17 @@ Cut = Op → List Store → List Store → Bool → Type 0
 
 -- "a put counts from its last store, a delete from its first"
 abbrev pub counts : Op → ℕ → ℕ → Bool
-counts (put k v hk hv) n all = eqb n all
-counts (delete k hk) zero all = false
-counts (delete k hk) (suc n) all = true
+counts (put k v h) n all = eqb n all
+counts (delete k h) zero all = false
+counts (delete k h) (suc n) all = true
 
 pub data InOrder : Op → List Store → List Store → Bool → Type 0 where
   before : {o : Op} {σ : List Store} (n : ℕ) → n ≤ length σ → InOrder o σ (take n σ) (counts o n (length σ))
 
--- opening's first n stores, each the answer of the planning call on the pool as it then is
-unfoldable pub openSteps : ℕ → List ℕ → List ℕ
-openSteps zero pool = pool
-openSteps (suc n) pool = openSteps n (made (openPlan pool .stores) pool)
-
 -- a pool of n leaves, its map where there is one, and the plain table of all finished operations and of cut ones that count
 pub data Reach (C : Cut) (n : ℕ) : List ℕ → Option (List ℕ) → Table → Type 0 where
   -- "Take a freshly formatted pool and its map."
-  fresh : (pool map : List ℕ) → Words pool → formatOf pool map n .number ≡ 0 → Reach C n (formatOf pool map n .pool) (some (formatOf pool map n .map)) blank
+  fresh : (pool map : List ℕ) → formatOf pool map n .number ≡ 0 → Reach C n (formatOf pool map n .pool) (some (formatOf pool map n .map)) blank
   -- "Make any sequence of puts and deletes"
   done : {pool map : List ℕ} {T : Table} (o : Op) → Reach C n pool (some map) T → whole o pool map .done .number ≡ 0
       → Reach C n (whole o pool map .pool) (some (whole o pool map .map)) (effect o T)

@@ -57,19 +57,22 @@ shownRows rows ks vs =
     (front (map (λ (e : Entry ℕ). e .value) (take (length ks) rows)) vs)
     (listed 0 (length (take (length ks) rows)) (ltb (length ks) (length rows)))
 
--- every name number and file number is a 64-bit number
+-- a name number is a 64-bit number, and so is every word of a pool
 abbrev pub Word : ℕ → Type 0
 Word x = x < 2 ^ 64
 
 abbrev pub Words : List ℕ → Type 0
 Words pool = (i : ℕ) → Word (wordAt pool i)
 
+abbrev pub Names : Table → Type 0
+Names T = (k v : ℕ) → T k ≡ some v → Word k
+
 -- lookup and listing answer as the table, for every name, every start and every two buffers of one length
 pub record Reads (pool : List ℕ) (T : Table) : Type 0 where
-  pub lookup : (k : ℕ) → Word k → Finds (T k) (lookupOf pool k)
+  pub lookup : (k : ℕ) → Finds (T k) (lookupOf pool k)
   pub rows : List (Entry ℕ)
   pub written : Rows T rows
-  pub listing : (from : ℕ) (ks vs : List ℕ) → Word from → (length ks ≡ 0 → ⊥) → length ks ≡ length vs
+  pub listing : (from : ℕ) (ks vs : List ℕ) → (length ks ≡ 0 → ⊥) → length ks ≡ length vs
       → listOf pool from ks vs ≡ shownRows (upFrom from rows) ks vs
 
 -- "a map that marks just the slots in use": a byte is not 0 exactly if its slot is reached

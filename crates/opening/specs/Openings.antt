@@ -116,3 +116,8 @@ leftIn pool bytes Wrong = left (opened 1 0 0) pool bytes
 
 unfoldable pub openOf : List ℕ → List ℕ → Left
 openOf pool bytes = leftIn pool bytes (capacityOf pool)
+
+-- opening's first k stores, each the answer of the planning call on the pool as it then is
+unfoldable pub openSteps : ℕ → List ℕ → List ℕ
+openSteps zero pool = pool
+openSteps (suc k) pool = openSteps k (made (openPlan pool .stores) pool)
