@@ -1,0 +1,3 @@
+pub mod LowestFree
+pub mod Arrays
+pub mod Splits
