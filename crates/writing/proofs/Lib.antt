@@ -1,3 +1,5 @@
 pub mod LowestFree
 pub mod Arrays
 pub mod Splits
+pub mod Puts
+pub mod Deletes

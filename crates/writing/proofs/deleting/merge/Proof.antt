@@ -1,64 +1,46 @@
+-- `merge` goes by what the other child is. Assumes nothing.
 use borrow.Author.Needs.{needs}
 use Rattle.writing.proofs.deleting.merge.Statement.{statement}
 use Rattle.writing.proofs.deleting.merge.Tie as tie
-use Rattle.writing.proofs.deleting.merge.Reads as reads
-use Rattle.writing.proofs.deleting.merge.Lts as lts
-use Rattle.plan.proofs.Planned.refused.Reads as refused-reads
-use Rattle.pool.proofs.reference.Reads as reference-reads
-use Rattle.writing.proofs.deleting.bypass.Reads as bypass-reads
-use Rattle.writing.proofs.deleting.lift.Reads as lift-reads
 
--- src/deleting.rt:89:11
 reference-requires : tie.Need-reference-requires
 reference-requires c κs = search needs
 
--- src/deleting.rt:90:23
 enum-told : tie.Need-enum-told
 enum-told c = search needs
 
--- src/deleting.rt:90:23
 refused-requires : tie.Need-refused-requires
 refused-requires c κs = search needs
 
--- src/deleting.rt:91:25
 enum-told-2 : tie.Need-enum-told-2
 enum-told-2 c = search needs
 
--- src/deleting.rt:91:25
 bypass-requires : tie.Need-bypass-requires
 bypass-requires c κs = search needs
 
--- src/deleting.rt:92:19
 enum-known-j : tie.Need-enum-known-j
 enum-known-j c = search needs
 
--- src/deleting.rt:92:25
 lift-requires : tie.Need-lift-requires
-lift-requires c κs = ?
+lift-requires c κs = (c .before .before .before .before .before .pre .0, c .before .before .before .before .before .pre .1, c .before .before .before .before .before .pre .2, c .before .before .before .before .before .pre .3, rw (c .before .j .given .1) at (c .before .before .before .reference .ensures .1))
 
--- src/deleting.rt:93:21
 enum-told-3 : tie.Need-enum-told-3
 enum-told-3 c = search needs
 
--- src/deleting.rt:93:21
 refused-requires-2 : tie.Need-refused-requires-2
 refused-requires-2 c κs = search needs
 
--- src/deleting.rt:85:1
 returns : tie.Need-returns
-returns c = ?
+returns c = rw (← c .before .before .before .reference .ensures .0, c .before .enum-told .given .1) (c .refused .ensures)
 
--- src/deleting.rt:85:1
 returns-2 : tie.Need-returns-2
-returns-2 c = ?
+returns-2 c = rw (← c .before .before .before .reference .ensures .0, c .before .enum-told2 .given .1) (c .bypass .ensures)
 
--- src/deleting.rt:85:1
 returns-3 : tie.Need-returns-3
-returns-3 c = ?
+returns-3 c = rw (← c .before .before .before .before .reference .ensures .0, c .before .before .j .given .1) (c .lift .ensures)
 
--- src/deleting.rt:85:1
 returns-4 : tie.Need-returns-4
-returns-4 c = ?
+returns-4 c = rw (← c .before .before .before .reference .ensures .0, c .before .enum-told3 .given .1) (c .refused2 .ensures)
 
 pub merge-spec : {M : Type 1} → statement M
 merge-spec =

@@ -1,83 +1,69 @@
+-- `plan_delete` judges the size, then goes by where the walk ends. It rests on the laws of walks' ends and of deletes. Assumes nothing.
+use mathlib.Core.Path.{sym, ap, _∙_}
+use native.Mathlib.Omega.{arith}
 use borrow.Author.Needs.{needs}
+use Rattle.walk.proofs.Ends.{walk-inside}
+use Rattle.plan.specs.Plans.{plannedOf}
+use Rattle.writing.proofs.Deletes.{delete-unsized, delete-missed, delete-absent, delete-root, delete-below}
 use Rattle.writing.proofs.deleting.plan_delete.Statement.{statement}
 use Rattle.writing.proofs.deleting.plan_delete.Tie as tie
-use Rattle.writing.proofs.deleting.plan_delete.Reads as reads
-use Rattle.writing.proofs.deleting.plan_delete.Lts as lts
-use Rattle.plan.proofs.Planned.refused.Reads as refused-reads
-use Rattle.pool.proofs.capacity.Reads as capacity-reads
-use Rattle.pool.proofs.leaf_key.Reads as leaf-key-reads
-use Rattle.walk.proofs.walk.Reads as walk-reads
-use Rattle.writing.proofs.deleting.empty.Reads as empty-reads
-use Rattle.writing.proofs.deleting.miss.Reads as miss-reads
-use Rattle.writing.proofs.deleting.unlink.Reads as unlink-reads
 
--- src/deleting.rt:128:26
 capacity-requires : tie.Need-capacity-requires
 capacity-requires c κs = search needs
 
--- src/deleting.rt:128:21
 enum-known-n : tie.Need-enum-known-n
 enum-known-n c = search needs
 
--- src/deleting.rt:129:9
 enum-told : tie.Need-enum-told
 enum-told c = search needs
 
--- src/deleting.rt:129:9
 refused-requires : tie.Need-refused-requires
 refused-requires c κs = search needs
 
--- src/deleting.rt:129:9
 returns : tie.Need-returns
-returns c = ?
+returns c = c .refused .ensures ∙ ap plannedOf (delete-unsized _ _ (c .before .before .before .capacity .ensures .0) (c .before .enum-told .given .1))
 
--- src/deleting.rt:131:9
 walk-requires : tie.Need-walk-requires
-walk-requires c κs = ?
+walk-requires c κs = rw (c .before .n .given .1) at (c .before .before .before .capacity .ensures .1)
 
--- src/deleting.rt:132:21
 enum-known-end : tie.Need-enum-known-end
 enum-known-end c = search needs
 
--- src/deleting.rt:133:33
 miss-requires : tie.Need-miss-requires
 miss-requires c κs = search needs
 
--- src/deleting.rt:133:9
 refused-requires-2 : tie.Need-refused-requires-2
 refused-requires-2 c κs = search needs
 
--- src/deleting.rt:133:9
 returns-2 : tie.Need-returns-2
-returns-2 c = ?
+returns-2 c = c .refused2 .ensures ∙ ap plannedOf (delete-missed _ _ (c .before .before .before .before .before .before .before .capacity .ensures .0) (c .before .before .before .before .before .n .given .1) (c .before .before .before .walk .ensures) (c .before .before .match2 .keys2) (c .before .miss .ensures))
 
--- src/deleting.rt:135:8
 leaf-key-requires : tie.Need-leaf-key-requires
-leaf-key-requires c κs = ?
+leaf-key-requires c κs =
+    let z = rw (c .before .before .before .before .before .n .given .1) at (c .before .before .before .before .before .before .before .capacity .ensures .1) in
+    (z, walk-inside z _ 16 (sym (c .before .end .given .1) ∙ c .before .before .before .walk .ensures) .within)
 
--- src/deleting.rt:136:9
 refused-requires-3 : tie.Need-refused-requires-3
 refused-requires-3 c κs = search needs
 
--- src/deleting.rt:136:9
 returns-3 : tie.Need-returns-3
-returns-3 c = ?
+returns-3 c = c .refused3 .ensures ∙ ap plannedOf (delete-absent _ _ (c .before .before .before .before .before .before .before .before .before .before .capacity .ensures .0) (c .before .before .before .before .before .before .before .before .n .given .1) (c .before .before .before .before .before .before .walk .ensures) (c .before .before .before .before .end .given .1) (c .before .before .leaf-key .ensures) (c .before .if1 .taken))
 
--- src/deleting.rt:139:9
 empty-requires : tie.Need-empty-requires
 empty-requires c κs = search needs
 
--- src/deleting.rt:139:9
 returns-4 : tie.Need-returns-4
-returns-4 c = ?
+returns-4 c = c .empty .ensures ∙ ap plannedOf (delete-root _ _ (c .before .before .before .before .before .before .before .before .before .before .before .before .capacity .ensures .0) (c .before .before .before .before .before .before .before .before .before .before .n .given .1) (c .before .before .before .before .before .before .before .before .walk .ensures) (c .before .before .before .before .before .before .end .given .1) (c .before .before .before .before .leaf-key .ensures) (c .before .before .before .if1 .left) (c .before .if2 .taken))
 
--- src/deleting.rt:141:5
 unlink-requires : tie.Need-unlink-requires
-unlink-requires c κs = ?
+unlink-requires c κs =
+    let z = rw (c .before .before .before .before .before .before .before .before .before .n .given .1) at (c .before .before .before .before .before .before .before .before .before .before .before .capacity .ensures .1) in
+    let i = walk-inside z _ 16 (sym (c .before .before .before .before .before .end .given .1) ∙ c .before .before .before .before .before .before .before .walk .ensures) .inside in
+    let p = i .passed (c .if2 .left) in
+    (z, p .accepted .j<, i .depth≤, omega (arith, p .accepted .w≤b))
 
--- src/deleting.rt:125:1
 returns-5 : tie.Need-returns-5
-returns-5 c = ?
+returns-5 c = c .unlink .ensures ∙ ap plannedOf (delete-below _ _ (c .before .before .before .before .before .before .before .before .before .before .before .before .capacity .ensures .0) (c .before .before .before .before .before .before .before .before .before .before .n .given .1) (c .before .before .before .before .before .before .before .before .walk .ensures) (c .before .before .before .before .before .before .end .given .1) (c .before .before .before .before .leaf-key .ensures) (c .before .before .before .if1 .left) (c .before .if2 .left))
 
 pub plan-delete-spec : {M : Type 1} → statement M
 plan-delete-spec =

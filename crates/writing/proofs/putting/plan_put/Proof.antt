@@ -1,85 +1,82 @@
+-- `plan_put` judges sizes, then goes by where the walk ends. It rests on the laws of walks' ends and of puts. Assumes nothing.
+use mathlib.Core.Path.{sym, ap, _∙_}
+use native.Mathlib.Omega.{arith}
 use borrow.Author.Needs.{needs}
+use Rattle.walk.proofs.Ends.{walk-inside}
+use Rattle.plan.specs.Plans.{plannedOf}
+use Rattle.writing.proofs.Puts.{over-inside, put-unsized, put-unmapped, put-at, put-damaged}
 use Rattle.writing.proofs.putting.plan_put.Statement.{statement}
 use Rattle.writing.proofs.putting.plan_put.Tie as tie
-use Rattle.writing.proofs.putting.plan_put.Reads as reads
-use Rattle.writing.proofs.putting.plan_put.Lts as lts
-use Rattle.plan.proofs.Planned.refused.Reads as refused-reads
-use Rattle.pool.proofs.capacity.Reads as capacity-reads
-use Rattle.walk.proofs.walk.Reads as walk-reads
-use Rattle.writing.proofs.putting.put_at_empty.Reads as put-at-empty-reads
-use Rattle.writing.proofs.putting.put_at_leaf.Reads as put-at-leaf-reads
 
--- src/putting.rt:129:26
 capacity-requires : tie.Need-capacity-requires
 capacity-requires c κs = search needs
 
--- src/putting.rt:129:21
 enum-known-n : tie.Need-enum-known-n
 enum-known-n c = search needs
 
--- src/putting.rt:130:9
 enum-told : tie.Need-enum-told
 enum-told c = search needs
 
--- src/putting.rt:130:9
 refused-requires : tie.Need-refused-requires
 refused-requires c κs = search needs
 
--- src/putting.rt:130:9
 returns : tie.Need-returns
-returns c = ?
+returns c =
+    let a = c .before .before .before .before .before .before .args in
+    c .refused .ensures ∙ ap plannedOf (put-unsized (a .pool .now) (a .map .now) (a .key) (a .value) (c .before .before .before .capacity .ensures .0) (c .before .enum-told .given .1))
 
--- src/putting.rt:132:21
 mul-if1 : tie.Need-mul-if1
-mul-if1 c = ?
+mul-if1 c = let z = rw (c .before .n .given .1) at (c .before .before .before .capacity .ensures .1) in omega arith
 
--- src/putting.rt:132:21
 sub-if1 : tie.Need-sub-if1
-sub-if1 c = ?
+sub-if1 c = let z = rw (c .before .n .given .1) at (c .before .before .before .capacity .ensures .1) in omega arith
 
--- src/putting.rt:133:9
 refused-requires-2 : tie.Need-refused-requires-2
 refused-requires-2 c κs = search needs
 
--- src/putting.rt:133:9
 returns-2 : tie.Need-returns-2
-returns-2 c = ?
+returns-2 c =
+    let a = c .before .before .before .before .before .before .before .before .args in
+    c .refused2 .ensures ∙ ap plannedOf (put-unmapped (a .pool .now) (a .map .now) (a .key) (a .value) (c .before .before .before .before .before .capacity .ensures .0) (c .before .before .before .n .given .1) (c .before .if1 .taken))
 
--- src/putting.rt:135:9
 walk-requires : tie.Need-walk-requires
-walk-requires c κs = ?
+walk-requires c κs = rw (c .before .before .n .given .1) at (c .before .before .before .before .capacity .ensures .1)
 
--- src/putting.rt:136:27
 enum-known-end : tie.Need-enum-known-end
 enum-known-end c = search needs
 
--- src/putting.rt:137:9
 put-at-leaf-requires : tie.Need-put-at-leaf-requires
-put-at-leaf-requires c κs = ?
+put-at-leaf-requires c κs =
+    let z = rw (c .before .before .before .before .before .before .n .given .1) at (c .before .before .before .before .before .before .before .before .capacity .ensures .1) in
+    (z, c .before .before .before .before .if1 .left, walk-inside z _ 16 (sym (c .before .end .given .1) ∙ c .before .before .before .walk .ensures) .within)
 
--- src/putting.rt:137:9
 returns-3 : tie.Need-returns-3
-returns-3 c = ?
+returns-3 c =
+    let a = c .before .before .before .before .before .before .before .before .before .before .before .before .args in
+    c .put-at-leaf .ensures ∙ ap plannedOf (put-at (a .pool .now) (a .map .now) (a .key) (a .value) (c .before .before .before .before .before .before .before .before .before .capacity .ensures .0) (c .before .before .before .before .before .before .before .n .given .1) (c .before .before .before .before .before .if1 .left) (c .before .before .before .before .walk .ensures) (c .before .before .end .given .1))
 
--- src/putting.rt:139:22
 enum-known-end-2 : tie.Need-enum-known-end-2
 enum-known-end-2 c = search needs
 
--- src/putting.rt:140:9
 refused-requires-3 : tie.Need-refused-requires-3
 refused-requires-3 c κs = search needs
 
--- src/putting.rt:140:9
 returns-4 : tie.Need-returns-4
-returns-4 c = ?
+returns-4 c =
+    let a = c .before .before .before .before .before .before .before .before .before .before .before .args in
+    c .refused3 .ensures ∙ ap plannedOf (put-damaged (a .pool .now) (a .map .now) (a .key) (a .value) (c .before .before .before .before .before .before .before .before .capacity .ensures .0) (c .before .before .before .before .before .before .n .given .1) (c .before .before .before .before .if1 .left) (c .before .before .before .walk .ensures) (c .before .before .match2 .keys2) (c .before .match3 .keys2))
 
--- src/putting.rt:142:5
 put-at-empty-requires : tie.Need-put-at-empty-requires
-put-at-empty-requires c κs = ?
+put-at-empty-requires c κs =
+    let z = rw (c .before .before .before .before .before .before .before .n .given .1) at (c .before .before .before .before .before .before .before .before .before .capacity .ensures .1) in
+    let i = walk-inside z _ 16 (sym (c .before .end2 .given .1) ∙ c .before .before .before .before .walk .ensures) .inside in
+    let o = over-inside z i in
+    (z, c .before .before .before .before .before .if1 .left, o .0, omega arith)
 
--- src/putting.rt:126:1
 returns-5 : tie.Need-returns-5
-returns-5 c = ?
+returns-5 c =
+    let a = c .before .before .before .before .before .before .before .before .before .before .before .before .before .args in
+    c .put-at-empty .ensures ∙ ap plannedOf (put-at (a .pool .now) (a .map .now) (a .key) (a .value) (c .before .before .before .before .before .before .before .before .before .before .capacity .ensures .0) (c .before .before .before .before .before .before .before .before .n .given .1) (c .before .before .before .before .before .before .if1 .left) (c .before .before .before .before .before .walk .ensures) (c .before .before .end2 .given .1))
 
 pub plan-put-spec : {M : Type 1} → statement M
 plan-put-spec =

@@ -1,56 +1,41 @@
+-- `put_at_empty`: the root is empty, or the key goes beside the lowest leaf of the walk's last node. Assumes nothing.
+use borrow.Author.Tests.{eq-eqb, ne-eqb}
 use borrow.Author.Needs.{needs}
 use Rattle.writing.proofs.putting.put_at_empty.Statement.{statement}
 use Rattle.writing.proofs.putting.put_at_empty.Tie as tie
-use Rattle.writing.proofs.putting.put_at_empty.Reads as reads
-use Rattle.writing.proofs.putting.put_at_empty.Lts as lts
-use Rattle.plan.proofs.Planned.refused.Reads as refused-reads
-use Rattle.walk.proofs.lowest_leaf.Reads as lowest-leaf-reads
-use Rattle.writing.proofs.putting.beside.Reads as beside-reads
-use Rattle.writing.proofs.splitting.grow.Reads as grow-reads
 
--- src/putting.rt:116:9
 grow-requires : tie.Need-grow-requires
-grow-requires c κs = search needs
+grow-requires c κs = (c .before .before .before .before .pre .0 .most, c .before .before .before .before .pre .1, c .before .before .before .before .pre .0 .some)
 
--- src/putting.rt:116:9
 returns : tie.Need-returns
-returns c = ?
+returns c = rw (eq-eqb _ _ (c .before .if1 .taken)) (c .grow .ensures)
 
--- src/putting.rt:119:65
 mul-lowest-leaf : tie.Need-mul-lowest-leaf
 mul-lowest-leaf c = search needs
 
--- src/putting.rt:119:65
 shared-slice-read-lowest-leaf : tie.Need-shared-slice-read-lowest-leaf
 shared-slice-read-lowest-leaf c = search needs
 
--- src/putting.rt:119:29
 lowest-leaf-requires : tie.Need-lowest-leaf-requires
 lowest-leaf-requires c κs = search needs
 
--- src/putting.rt:119:21
 enum-known-near : tie.Need-enum-known-near
 enum-known-near c = search needs
 
--- src/putting.rt:120:9
 enum-told : tie.Need-enum-told
 enum-told c = search needs
 
--- src/putting.rt:120:9
 refused-requires : tie.Need-refused-requires
 refused-requires c κs = search needs
 
--- src/putting.rt:120:9
 returns-2 : tie.Need-returns-2
-returns-2 c = ?
+returns-2 c = rw (ne-eqb _ _ (c .before .before .before .before .before .if1 .left), ← c .before .before .before .lowest-leaf .ensures, c .before .enum-told .given .1) (c .refused .ensures)
 
--- src/putting.rt:122:5
 beside-requires : tie.Need-beside-requires
 beside-requires c κs = search needs
 
--- src/putting.rt:111:1
 returns-3 : tie.Need-returns-3
-returns-3 c = ?
+returns-3 c = rw (ne-eqb _ _ (c .before .before .before .before .before .before .if1 .left), ← c .before .before .before .before .lowest-leaf .ensures, c .before .before .near .given .1) (c .beside .ensures)
 
 pub put-at-empty-spec : {M : Type 1} → statement M
 put-at-empty-spec =

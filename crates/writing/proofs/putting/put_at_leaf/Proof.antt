@@ -1,31 +1,24 @@
+-- `put_at_leaf`: the key is found, or it goes beside the leaf's. Assumes nothing.
+use native.Mathlib.Omega.{arith}
+use borrow.Author.Tests.{eq-eqb, ne-eqb}
 use borrow.Author.Needs.{needs}
 use Rattle.writing.proofs.putting.put_at_leaf.Statement.{statement}
 use Rattle.writing.proofs.putting.put_at_leaf.Tie as tie
-use Rattle.writing.proofs.putting.put_at_leaf.Reads as reads
-use Rattle.writing.proofs.putting.put_at_leaf.Lts as lts
-use Rattle.pool.proofs.leaf_key.Reads as leaf-key-reads
-use Rattle.writing.proofs.putting.beside.Reads as beside-reads
-use Rattle.writing.proofs.putting.replace.Reads as replace-reads
 
--- src/putting.rt:103:9
 leaf-key-requires : tie.Need-leaf-key-requires
 leaf-key-requires c κs = search needs
 
--- src/putting.rt:105:9
 replace-requires : tie.Need-replace-requires
-replace-requires c κs = search needs
+replace-requires c κs = let z = c .before .before .before .before .pre .0 in omega arith
 
--- src/putting.rt:105:9
 returns : tie.Need-returns
-returns c = ?
+returns c = rw (← c .before .before .leaf-key .ensures, eq-eqb _ _ (c .before .if1 .taken)) (c .replace .ensures)
 
--- src/putting.rt:107:5
 beside-requires : tie.Need-beside-requires
 beside-requires c κs = search needs
 
--- src/putting.rt:99:1
 returns-2 : tie.Need-returns-2
-returns-2 c = ?
+returns-2 c = rw (← c .before .before .leaf-key .ensures, ne-eqb _ _ (c .before .if1 .left)) (c .beside .ensures)
 
 pub put-at-leaf-spec : {M : Type 1} → statement M
 put-at-leaf-spec =
