@@ -3,3 +3,5 @@ pub mod Arrays
 pub mod Splits
 pub mod Puts
 pub mod Deletes
+pub mod Fits
+pub mod Wholes

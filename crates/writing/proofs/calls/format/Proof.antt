@@ -1,62 +1,51 @@
+-- `format` judges sizes, then stores word 1, word 0 and the map. Assumes nothing.
+use native.Mathlib.Omega.{arith}
 use borrow.Author.Needs.{needs}
+use lib.Seq.{lt-length-set}
+use Rattle.writing.proofs.Wholes.{format-unsized, format-sized, format-unmapped, format-made}
 use Rattle.writing.proofs.calls.format.Statement.{statement}
 use Rattle.writing.proofs.calls.format.Tie as tie
-use Rattle.writing.proofs.calls.format.Reads as reads
-use Rattle.writing.proofs.calls.format.Lts as lts
-use Rattle.pool.proofs.size_of.Reads as size-of-reads
-use Rattle.writing.proofs.calls.clear.Reads as clear-reads
 
--- src/calls.rt:74:31
 size-of-requires : tie.Need-size-of-requires
 size-of-requires c κs = search needs
 
--- src/calls.rt:74:21
 enum-known-leaves : tie.Need-enum-known-leaves
 enum-known-leaves c = search needs
 
--- src/calls.rt:75:9
 enum-told : tie.Need-enum-told
 enum-told c = search needs
 
--- src/calls.rt:75:9
 returns : tie.Need-returns
-returns c = ?
+returns c = format-unsized _ _ _ (c .before .before .size-of .ensures) (c .enum-told .given .1)
 
--- src/calls.rt:77:21
 mul-if1 : tie.Need-mul-if1
-mul-if1 c = ?
+mul-if1 c = let z = format-sized (c .before .before .before .before .before .before .args .pool .now) (c .before .before .before .before .before .before .args .map .now) _ (c .before .before .before .size-of .ensures) (c .before .leaves .given .1) in omega arith
 
--- src/calls.rt:77:21
 sub-if1 : tie.Need-sub-if1
-sub-if1 c = ?
+sub-if1 c = let z = format-sized (c .before .before .before .before .before .before .args .pool .now) (c .before .before .before .before .before .before .args .map .now) _ (c .before .before .before .size-of .ensures) (c .before .leaves .given .1) in omega arith
 
--- src/calls.rt:78:9
 returns-2 : tie.Need-returns-2
-returns-2 c = ?
+returns-2 c = format-unmapped _ _ _ (c .before .before .before .before .size-of .ensures) (c .before .before .leaves .given .1) (c .if1 .taken)
 
--- src/calls.rt:80:5
 slice-write-pool : tie.Need-slice-write-pool
-slice-write-pool c = ?
+slice-write-pool c = let z = format-sized (c .before .before .before .before .before .before .before .args .pool .now) (c .before .before .before .before .before .before .before .args .map .now) _ (c .before .before .before .before .size-of .ensures) (c .before .before .leaves .given .1) in omega arith
 
--- src/calls.rt:81:5
 slice-write-pool-2 : tie.Need-slice-write-pool-2
-slice-write-pool-2 c = ?
+slice-write-pool-2 c =
+    let z = format-sized (c .before .before .before .before .before .before .before .args .pool .now) (c .before .before .before .before .before .before .before .args .map .now) _ (c .before .before .before .before .size-of .ensures) (c .before .before .leaves .given .1) in
+    lt-length-set (c .before .before .before .before .before .before .before .args .pool .now) 1 0 (omega arith)
 
--- src/calls.rt:82:5
 clear-requires : tie.Need-clear-requires
 clear-requires c κs = search needs
 
--- src/calls.rt:71:1
 same-length : tie.Need-same-length
 same-length c = search needs
 
--- src/calls.rt:71:1
 same-length-2 : tie.Need-same-length-2
 same-length-2 c = search needs
 
--- src/calls.rt:71:1
 returns-3 : tie.Need-returns-3
-returns-3 c = ?
+returns-3 c = format-made _ _ _ (c .before .before .before .before .before .before .before .before .size-of .ensures) (c .before .before .before .before .before .before .leaves .given .1) (c .before .before .before .before .if1 .left) (c .before .before .clear .ensures)
 
 pub format-spec : {M : Type 1} → statement M
 format-spec =
