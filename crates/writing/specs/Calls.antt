@@ -10,7 +10,7 @@ use Rattle.pool.specs.declared.Size.{Size}
 use Rattle.pool.specs.declared.Size.the-variants.{Holds, Wrong}
 use Rattle.plan.specs.Plans.{made, runOf, finishOf, Decided, refused}
 use Rattle.plan.specs.declared.Planned.{Planned}
-use Rattle.writing.specs.declared.Done.{Done}
+use Rattle.writing.specs.declared.calls.Done.{Done}
 use Rattle.writing.specs.Puts.{putPlan}
 use Rattle.writing.specs.Deletes.{deletePlan}
 

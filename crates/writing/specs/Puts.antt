@@ -22,11 +22,11 @@ use Rattle.walk.specs.declared.Lowest.{Lowest}
 use Rattle.walk.specs.declared.Lowest.the-variants.{Key, NoKey}
 use Rattle.plan.specs.Plans.{Decided, decided, refused}
 use Rattle.plan.specs.declared.Effect.the-variants.{Nothing, TakesLeaf, TakesBoth}
-use Rattle.writing.specs.declared.Cleft.{Cleft}
-use Rattle.writing.specs.declared.Target.{Target}
-use Rattle.writing.specs.declared.Target.the-variants.{ALeaf, ANode}
-use Rattle.writing.specs.declared.Room.{Room}
-use Rattle.writing.specs.declared.Room.the-variants.{Slots, Full}
+use Rattle.writing.specs.declared.splitting.Cleft.{Cleft}
+use Rattle.writing.specs.declared.splitting.Target.{Target}
+use Rattle.writing.specs.declared.splitting.Target.the-variants.{ALeaf, ANode}
+use Rattle.writing.specs.declared.splitting.Room.{Room}
+use Rattle.writing.specs.declared.splitting.Room.the-variants.{Slots, Full}
 
 abbrev pub store : ℕ → ℕ → Store
 store i v = record { word = i; value = v }

@@ -118,7 +118,12 @@ fn unlink(pool: &[u64], n: usize, s: Spot, i: usize) -> Planned
 fn miss(end: End) -> u64
     ensures { λ r. ⌜ r ≡ missOf end ⌝ }
 {
-    if let End::AtEmpty(_) = end { 3 } else { 2 }
+    match end {
+        End::AtLeaf(_, _) => 2,
+        End::AtEmpty(_) => 3,
+        End::Stopped(_, _, _) => 2,
+        End::Damaged(_) => 2,
+    }
 }
 
 // What a delete stores, in order.

@@ -71,7 +71,7 @@ fn split_child(s: Cleft, leaf: usize, key: u64, c: usize) -> u64
 // The word numbers of a split's first 19 stores: the leaf's two words, then the new node's seventeen.
 fn split_words(n: usize, leaf: usize, node: usize) -> [usize; 21]
     requires { ⌜ (n ≤ 1024) × (leaf < 1024) × (node < 1024) ⌝ }
-    ensures { λ r. ⌜ r ≡ padded (leafWord leaf ∷ leafWord leaf + 1 ∷ tab 17 (λ i. nodeWord n node + i)) ⌝ }
+    ensures { λ r. ⌜ r ≡ padded (leafWord leaf ∷ (leafWord leaf + 1) ∷ tab 17 (λ i. nodeWord n node + i)) ⌝ }
 {
     let leaf_word = pool::leaf_word(leaf);
     let node_word = pool::node_word(n, node);
@@ -115,7 +115,7 @@ pub enum Room {
     Full,
 }
 
-fn room(map: &[u8], n: usize) -> Room
+fn find_room(map: &[u8], n: usize) -> Room
     requires { ⌜ (n ≤ 1024) × (length (now map) ≡ bytesOf n) × (1 ≤ n) ⌝ }
     ensures { λ r. ⌜ r ≡ roomOf (now (map .entry)) n ⌝ }
 {
@@ -135,26 +135,38 @@ pub fn split(map: &[u8], n: usize, s: Cleft, key: u64, value: u64, target: Targe
     requires { ⌜ (n ≤ 1024) × (length (now map) ≡ bytesOf n) × (1 ≤ n) × (s .depth ≤ s .diff) × (s .diff < 16) × Splits n s target ⌝ }
     ensures { λ r. ⌜ r ≡ plannedOf (splitOf (now (map .entry)) n s key value target) ⌝ }
 {
-    let Room::Slots(leaf, byte) = room(map, n) else {
+    let Room::Slots(leaf, byte) = find_room(map, n) else {
         return Planned::refused(4);
     };
-    let mut words = split_words(n, leaf, byte - n);
+    let node = byte - n;
+    let mut words = split_words(n, leaf, node);
     let mut values = split_values(s, leaf, key, value);
-    let mut count: usize = 19;
-    if let Target::ANode(j, b) = target {
-        words[19] = pool::node_word(n, j);
-        values[19] = Header::pack(s.diff + 1, b - s.diff - 1, s.near);
-        count = 20;
-    }
-    words[count] = s.at;
-    values[count] = pool::node_ref(byte - n);
+    let reference = pool::node_ref(node);
+    let effect = Effect::TakesBoth(leaf, byte);
+    let Target::ANode(j, b) = target else {
+        words[19] = s.at;
+        values[19] = reference;
+        return Planned {
+            number: 0,
+            plan: Plan {
+                words,
+                values,
+                count: 20,
+                effect,
+            },
+        };
+    };
+    words[19] = pool::node_word(n, j);
+    values[19] = Header::pack(s.diff + 1, b - s.diff - 1, s.near);
+    words[20] = s.at;
+    values[20] = reference;
     Planned {
         number: 0,
         plan: Plan {
             words,
             values,
-            count: count + 1,
-            effect: Effect::TakesBoth(leaf, byte),
+            count: 21,
+            effect,
         },
     }
 }

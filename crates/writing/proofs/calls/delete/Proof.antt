@@ -1,0 +1,67 @@
+-- `delete` judges the map, plans and carries out. It rests on the law that a delete's stores lie inside the pool and are few. Assumes nothing.
+use native.Mathlib.Omega.{arith}
+use borrow.Author.Needs.{needs}
+use Rattle.writing.proofs.Wholes.{delete-unsized-whole, delete-unmapped, delete-carried}
+use Rattle.writing.proofs.calls.delete.Statement.{statement}
+use Rattle.writing.proofs.calls.delete.Tie as tie
+
+capacity-requires : tie.Need-capacity-requires
+capacity-requires c κs = search needs
+
+enum-known-n : tie.Need-enum-known-n
+enum-known-n c = search needs
+
+enum-told : tie.Need-enum-told
+enum-told c = search needs
+
+same-length : tie.Need-same-length
+same-length c = search needs
+
+returns : tie.Need-returns
+returns c = delete-unsized-whole _ _ _ (c .before .before .capacity .ensures .0) (c .enum-told .given .1)
+
+mul-if1 : tie.Need-mul-if1
+mul-if1 c = let z = rw (c .before .n .given .1) at (c .before .before .before .capacity .ensures .1) in omega arith
+
+sub-if1 : tie.Need-sub-if1
+sub-if1 c = let z = rw (c .before .n .given .1) at (c .before .before .before .capacity .ensures .1) in omega arith
+
+same-length-2 : tie.Need-same-length-2
+same-length-2 c = search needs
+
+returns-2 : tie.Need-returns-2
+returns-2 c = delete-unmapped _ _ _ (c .before .before .before .before .capacity .ensures .0) (c .before .before .n .given .1) (c .if1 .taken)
+
+plan-delete-requires : tie.Need-plan-delete-requires
+plan-delete-requires c κs = search needs
+
+carry-out-requires : tie.Need-carry-out-requires
+carry-out-requires c κs = search needs
+
+same-length-3 : tie.Need-same-length-3
+same-length-3 c = search needs
+
+same-length-4 : tie.Need-same-length-4
+same-length-4 c = search needs
+
+returns-3 : tie.Need-returns-3
+returns-3 c = delete-carried _ _ _ (c .before .before .before .before .before .before .before .before .before .before .before .before .before .capacity .ensures .0) (c .before .before .before .before .before .before .before .before .before .before .before .n .given .1) (c .before .before .before .before .before .before .before .before .before .if1 .left) (c .before .before .before .before .before .before .before .plan-delete .ensures) (c .before .before .before .before .carry-out .ensures)
+
+pub delete-spec : {M : Type 1} → statement M
+delete-spec =
+    tie.close
+    (tie.spec
+    capacity-requires
+    enum-known-n
+    enum-told
+    same-length
+    returns
+    mul-if1
+    sub-if1
+    same-length-2
+    returns-2
+    plan-delete-requires
+    carry-out-requires
+    same-length-3
+    same-length-4
+    returns-3)
