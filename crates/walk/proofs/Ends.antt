@@ -51,7 +51,7 @@ module _ {pool : List ℕ} {n : ℕ} (z : Sized pool n) (stop : ℕ) where
 
   walks-inside : {key : ℕ} {s : Spot} {e : End} → Walks pool n key stop s e → Inside pool n stop s → Ends pool n stop e
   walks-inside (ends r e w h q) i = rw q (at-end r i e w h)
-  walks-inside (damaged j e h q) i = rw q (omega arith)
+  walks-inside (damaged j a q) i = rw q (omega arith)
   walks-inside (stops j b a l q) i = rw q (record { inside = i; accepted = a; stop≤ = l })
   walks-inside {key} (goes j b a l w) i = walks-inside w (below-inside i a l (digit-lt 16 key b))
 
@@ -84,7 +84,7 @@ Unstopped (Damaged m) = Unit {0}
 module _ {pool : List ℕ} {n key stop : ℕ} where
   no-stop : {s : Spot} {e : End} → Walks pool n key stop s e → Unstopped e → Walks pool n key 16 s e
   no-stop (ends r e w h q) u = ends r e w h q
-  no-stop (damaged j e h q) u = damaged j e h q
+  no-stop (damaged j a q) u = damaged j a q
   no-stop (stops j b a l q) u = absurd (rw q at u)
   no-stop (goes j b a l w) u = goes j b a (a .b<) (no-stop w u)
 

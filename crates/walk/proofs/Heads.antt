@@ -43,10 +43,15 @@ NoNode (Leaf i) = Unit {0}
 NoNode (Node j) = ⊥
 NoNode Bad = Unit {0}
 
+-- the reference r, met at walk depth w, is to node j, and its header is refused
+pub record Refused (pool : List ℕ) (n w r j : ℕ) : Type 0 where
+  pub refers : refOf n r ≡ Node j
+  pub head : headOf w (headerAt pool n j) ≡ Wrong
+
 -- what the reference r, met at walk depth w, comes to
 pub data Met (pool : List ℕ) (n w r : ℕ) : Type 0 where
   no-node : (x : Ref) → refOf n r ≡ x → Within n x → NoNode x → Met pool n w r
-  wrong : (j : ℕ) → refOf n r ≡ Node j → headOf w (headerAt pool n j) ≡ Wrong → Met pool n w r
+  wrong : (j : ℕ) → Refused pool n w r j → Met pool n w r
   node : (j b : ℕ) → Accepted pool n w r j b → Met pool n w r
 
 pub met : (pool : List ℕ) (n w r : ℕ) → Met pool n w r
@@ -54,7 +59,7 @@ met pool n w r = at-ref (refOf n r) refl (within n r)
   where
     at-head : (j : ℕ) → refOf n r ≡ Node j → j + 1 < n → (h : Head) → headOf w (headerAt pool n j) ≡ h → Between w h → Met pool n w r
     at-head j e l (Branch b) f g = node j b (record { refers = e; j< = l; head = f; w≤b = g .0; b< = g .1 })
-    at-head j e l Wrong f g = wrong j e f
+    at-head j e l Wrong f g = wrong j (record { refers = e; head = f })
     at-ref : (x : Ref) → refOf n r ≡ x → Within n x → Met pool n w r
     at-ref Empty e l = no-node Empty e tt tt
     at-ref (Leaf i) e l = no-node (Leaf i) e l tt
@@ -70,8 +75,8 @@ unmatched Bad h = tt
 
 module _ (pool : List ℕ) (n w r : ℕ) {x : Ref} {y : Head} {j h : ℕ} (e : x ≡ refOf n r) (f : x ≡ Node j) (g : h ≡ headerAt pool n j) (k : y ≡ headOf w h) where
   -- or a node whose header is refused
-  pub refused : y ≡ Wrong → (refOf n r ≡ Node j) × (headOf w (headerAt pool n j) ≡ Wrong)
-  refused m = (sym e ∙ f, rw (← g, ← k) m)
+  pub refused : y ≡ Wrong → Refused pool n w r j
+  refused m = record { refers = sym e ∙ f; head = rw (← g, ← k) m }
 
   -- or one whose header is accepted
   pub accepted : {b : ℕ} → Within n x → Between w y → y ≡ Branch b → Accepted pool n w r j b

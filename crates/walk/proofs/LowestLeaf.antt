@@ -15,7 +15,7 @@ use Rattle.walk.specs.declared.Lowest.{Lowest}
 use Rattle.walk.specs.declared.Lowest.the-variants.{NoKey}
 use Rattle.walk.specs.Walks.{headOf, lowestChild, lowestEnd, lowestFrom}
 use Rattle.walk.specs.Ends.{Accepted}
-use Rattle.walk.proofs.Heads.{NoNode, no-node, wrong, node, met}
+use Rattle.walk.proofs.Heads.{NoNode, Refused, no-node, wrong, node, met}
 
 module _ (pool : List ℕ) (n : ℕ) where
   -- one turn of the definition
@@ -26,9 +26,9 @@ module _ (pool : List ℕ) (n : ℕ) where
   lowest-ends f w r (Node j) e h = absurd h
   lowest-ends f w r Bad e h = rw (e, lowestFrom)
 
-  pub lowest-damaged : (f w r j : ℕ) → refOf n r ≡ Node j → headOf w (headerAt pool n j) ≡ Wrong → lowestFrom (suc f) pool n w r ≡ NoKey
+  pub lowest-damaged : (f w r j : ℕ) → Refused pool n w r j → lowestFrom (suc f) pool n w r ≡ NoKey
   unfolding lowestFrom
-  lowest-damaged f w r j e h = rw (e, h, lowestFrom)
+  lowest-damaged f w r j a = rw (a .refers, a .head, lowestFrom)
 
   pub lowest-childless : (f w r j b : ℕ) → Accepted pool n w r j b → 16 ≤ lowestChild pool n j → lowestFrom (suc f) pool n w r ≡ NoKey
   unfolding lowestFrom
@@ -46,7 +46,7 @@ module _ (pool : List ℕ) (n : ℕ) where
   lowest-fuel (suc f) (suc g) w r d h l =
       elim (met pool n w r) [
         | no-node x e i u ↦ lowest-ends f w r x e u ∙ sym (lowest-ends g w r x e u)
-        | wrong j e u ↦ lowest-damaged f w r j e u ∙ sym (lowest-damaged g w r j e u)
+        | wrong j a ↦ lowest-damaged f w r j a ∙ sym (lowest-damaged g w r j a)
         | node j b a ↦
             elim (decLt (lowestChild pool n j) 16) [
               | yes u ↦

@@ -21,12 +21,12 @@ use Rattle.walk.specs.declared.End.{End}
 use Rattle.walk.specs.declared.End.the-variants.{AtLeaf, AtEmpty, Stopped, Damaged}
 use Rattle.walk.specs.Walks.{headOf, root, below, endOf, walkFrom, walkTo, walkOf}
 use Rattle.walk.specs.Ends.{Accepted, Passed, Inside, Stands, Stops, Ends, nodesOf}
-use Rattle.walk.proofs.Heads.{NoNode, Met, no-node, wrong, node, met}
+use Rattle.walk.proofs.Heads.{NoNode, Refused, Met, no-node, wrong, node, met}
 
 -- from s the walk comes to e
 pub data Walks (pool : List ℕ) (n key stop : ℕ) : Spot → End → Type 0 where
   ends : {s : Spot} {e : End} (r : Ref) → refOf n (wordAt pool (s .at)) ≡ r → Within n r → NoNode r → e ≡ endOf s r → Walks pool n key stop s e
-  damaged : {s : Spot} {e : End} (j : ℕ) → refOf n (wordAt pool (s .at)) ≡ Node j → headOf (s .depth) (headerAt pool n j) ≡ Wrong → e ≡ Damaged (s .nodes) → Walks pool n key stop s e
+  damaged : {s : Spot} {e : End} (j : ℕ) → Refused pool n (s .depth) (wordAt pool (s .at)) j → e ≡ Damaged (s .nodes) → Walks pool n key stop s e
   stops : {s : Spot} {e : End} (j b : ℕ) → Accepted pool n (s .depth) (wordAt pool (s .at)) j b → stop ≤ b → e ≡ Stopped s j b → Walks pool n key stop s e
   goes : {s : Spot} {e : End} (j b : ℕ) → Accepted pool n (s .depth) (wordAt pool (s .at)) j b → b < stop → Walks pool n key stop (below n j b (digitOf key b) s) e → Walks pool n key stop s e
 
@@ -39,10 +39,9 @@ module _ (pool : List ℕ) (n key stop : ℕ) where
   walk-ends f s (Node j) e h = absurd h
   walk-ends f s Bad e h = rw (e, walkFrom)
 
-  pub walk-damaged : (f : ℕ) (s : Spot) (j : ℕ) → refOf n (wordAt pool (s .at)) ≡ Node j → headOf (s .depth) (headerAt pool n j) ≡ Wrong
-      → walkFrom (suc f) pool n key stop s ≡ Damaged (s .nodes)
+  pub walk-damaged : (f : ℕ) (s : Spot) (j : ℕ) → Refused pool n (s .depth) (wordAt pool (s .at)) j → walkFrom (suc f) pool n key stop s ≡ Damaged (s .nodes)
   unfolding walkFrom
-  walk-damaged f s j e h = rw (e, h, walkFrom)
+  walk-damaged f s j a = rw (a .refers, a .head, walkFrom)
 
   pub walk-stops : (f : ℕ) (s : Spot) (j b : ℕ) → Accepted pool n (s .depth) (wordAt pool (s .at)) j b → stop ≤ b → walkFrom (suc f) pool n key stop s ≡ Stopped s j b
   unfolding walkFrom
@@ -59,7 +58,7 @@ module _ (pool : List ℕ) (n key stop : ℕ) where
   walk-comes (suc f) s d h =
       elim (met pool n (s .depth) (wordAt pool (s .at))) [
         | no-node r e i g ↦ ends r e i g (walk-ends f s r e g)
-        | wrong j e g ↦ damaged j e g (walk-damaged f s j e g)
+        | wrong j a ↦ damaged j a (walk-damaged f s j a)
         | node j b a ↦
             elim (decLt b stop) [
               | yes l ↦ rw (walk-goes f s j b a l) (goes j b a l (walk-comes f (below n j b (digitOf key b) s) (omega (arith, a .b<)) (omega (arith, a .w≤b))))
@@ -71,7 +70,7 @@ module _ (pool : List ℕ) (n key stop : ℕ) where
   pub walk-end : {s : Spot} {e : End} → Walks pool n key stop s e → (f : ℕ) → s .depth ≤ 16 → 17 ≤ f + s .depth → e ≡ walkFrom f pool n key stop s
   walk-end w zero d h = absurd (omega arith)
   walk-end {s} (ends r e i h q) (suc f) d g = q ∙ sym (walk-ends f s r e h)
-  walk-end {s} (damaged j e h q) (suc f) d g = q ∙ sym (walk-damaged f s j e h)
+  walk-end {s} (damaged j a q) (suc f) d g = q ∙ sym (walk-damaged f s j a)
   walk-end {s} (stops j b a l q) (suc f) d g = q ∙ sym (walk-stops f s j b a l)
   walk-end {s} (goes j b a l w) (suc f) d g = walk-end w f (omega (arith, a .b<)) (omega (arith, a .w≤b)) ∙ sym (walk-goes f s j b a l)
 

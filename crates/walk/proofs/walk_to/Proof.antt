@@ -2,12 +2,13 @@ use mathlib.Core.Path.{_≡_, refl, sym, _∙_}
 use Prim.Native.Nat.{ℕ, _-_, _≤_}
 use native.Mathlib.Omega.{arith}
 use borrow.Author.Needs.{needs}
+use Rattle.digits.proofs.Digits.{digit-lt}
 use Rattle.pool.specs.Places.{wordAt}
 use Rattle.walk.specs.declared.End.{End}
-use Rattle.walk.specs.Walks.{walkTo, root, below}
+use Rattle.walk.specs.Walks.{walkFrom, walkTo}
 use Rattle.walk.specs.Ends.{Accepted, Inside}
 use Rattle.walk.proofs.Heads.{unmatched, refused, accepted}
-use Rattle.walk.proofs.Walks.{Walks, ends, damaged, stops, goes, walk-end}
+use Rattle.walk.proofs.Walks.{walk-ends, walk-damaged, walk-stops, walk-goes, walk-fuel}
 use Rattle.walk.proofs.Ends.{root-inside, below-inside}
 use Rattle.walk.proofs.walk_to.Statement.{statement}
 use Rattle.walk.proofs.walk_to.Tie as tie
@@ -22,7 +23,7 @@ use Rattle.walk.proofs.accept.Reads as accept-reads
 use Rattle.walk.proofs.ended.Reads as ended-reads
 
 abbrev Inv-loop : tie.InvT-loop
-Inv-loop pool n key stop s₀ s = Inside pool n stop s × ((e : End) → Walks pool n key stop s e → e ≡ walkTo pool n key stop)
+Inv-loop pool n key stop s₀ s = Inside pool n stop s × (walkFrom 17 pool n key stop s ≡ walkTo pool n key stop)
 
 abbrev μ-loop : tie.MeasureT-loop
 μ-loop pool n key stop s₀ s = 16 - s .depth
@@ -34,10 +35,8 @@ root-requires c κs = search needs
 -- src/lib.rt:105:5
 loop-holds : tie.Need-loop-holds Inv-loop μ-loop
 loop-holds c =
-    let a = c .before .before .args in (
-      rw (c .root .ensures) (root-inside (c .before .before .pre) (a .stop)),
-      λ e w. walk-end (a .pool .now) (a .n) (a .key) (a .stop) (rw (c .root .ensures) at w) 17 (omega arith) (omega arith),
-    )
+    let a = c .before .before .args in
+    rw (c .root .ensures) (root-inside (c .before .before .pre) (a .stop), refl)
 
 -- src/lib.rt:107:36
 mul-reference : tie.Need-mul-reference Inv-loop μ-loop
@@ -63,7 +62,7 @@ ended-requires c κs = search needs
 returns : tie.Need-returns Inv-loop μ-loop
 returns c =
     let r = c .before .before .reference in
-    c .before .before .before .before .loop .inv .1 _ (ends (r .result) (sym (r .ensures .0)) (r .ensures .1) (unmatched (r .result) (c .before .match .keys2)) (c .ended .ensures))
+    c .ended .ensures ∙ sym (walk-ends _ _ _ _ 16 _ (r .result) (sym (r .ensures .0)) (unmatched (r .result) (c .before .match .keys2))) ∙ c .before .before .before .before .loop .inv .1
 
 -- src/lib.rt:111:47
 header-requires : tie.Need-header-requires Inv-loop μ-loop
@@ -85,10 +84,8 @@ enum-told c = search needs
 returns-2 : tie.Need-returns-2 Inv-loop μ-loop
 returns-2 c =
     let t = c .before .before in
-    let a = t .before .before .before .before .before .before .before .before .before .before .args in
-    let l = t .before .before .before .before .before .before .before .loop in
-    let g = refused (a .pool .now) (a .n) (l .s .depth) _ (t .before .before .before .before .before .reference .ensures .0) (t .before .before .before .r .given .1) (t .before .header .ensures) (t .accept .ensures .0) (c .enum-told .given .1) in
-    l .inv .1 _ (damaged _ (g .0) (g .1) refl)
+    let a = refused _ _ _ _ (t .before .before .before .before .before .reference .ensures .0) (t .before .before .before .r .given .1) (t .before .header .ensures) (t .accept .ensures .0) (c .enum-told .given .1) in
+    sym (walk-damaged _ _ _ _ 16 _ _ a) ∙ t .before .before .before .before .before .before .before .loop .inv .1
 
 -- what is known of the node where its header is accepted
 node : (c : tie.After-b Inv-loop μ-loop)
@@ -102,7 +99,7 @@ node c =
 
 -- src/lib.rt:115:13
 returns-3 : tie.Need-returns-3 Inv-loop μ-loop
-returns-3 c = c .before .before .before .before .before .before .before .before .before .before .before .loop .inv .1 _ (stops _ _ (node (c .before .before)) (c .if1 .taken) refl)
+returns-3 c = sym (walk-stops _ _ _ _ 16 _ _ _ (node (c .before .before)) (c .if1 .taken)) ∙ c .before .before .before .before .before .before .before .before .before .before .before .loop .inv .1
 
 -- src/lib.rt:117:29
 digit-requires : tie.Need-digit-requires Inv-loop μ-loop
@@ -125,9 +122,10 @@ loop-again : tie.Need-loop-again Inv-loop μ-loop
 loop-again c =
     let g = node (c .before .before .before .before) in
     let l = c .before .before .before .before .before .before .before .before .before .before .before .before .before .loop in
-    let h = c .before .before .if1 .left in (
-      rw (c .past .ensures) (below-inside (c .before .before .before .before .before .before .before .before .before .before .before .before .before .before .before .before .pre) _ (l .inv .0) g h (omega (arith, c .before .digit .ensures))),
-      λ e w. l .inv .1 e (goes _ _ g h (rw (c .past .ensures, c .before .digit .ensures) at w)),
+    let h = c .before .before .if1 .left in
+    rw (c .past .ensures, c .before .digit .ensures) (
+      below-inside (c .before .before .before .before .before .before .before .before .before .before .before .before .before .before .before .before .pre) _ (l .inv .0) g h (digit-lt 16 _ _),
+      walk-fuel _ _ _ _ 17 16 _ (omega arith) (omega arith) (omega arith) ∙ sym (walk-goes _ _ _ _ 16 _ _ _ g h) ∙ l .inv .1,
     )
 
 pub walk-to-spec : {M : Type 1} → statement M
