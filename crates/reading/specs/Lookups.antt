@@ -13,8 +13,8 @@ use Rattle.pool.specs.declared.Ref.the-variants.{Empty, Leaf, Node, Bad}
 use Rattle.walk.specs.Walks.{walkOf}
 use Rattle.walk.specs.declared.End.{End}
 use Rattle.walk.specs.declared.End.the-variants.{AtLeaf, AtEmpty, Stopped, Damaged}
-use Rattle.reading.specs.declared.Found.{Found}
-use Rattle.reading.specs.declared.Found.the-variants.{Hit, Absent, Met, WrongSize}
+use Rattle.reading.specs.declared.finding.Found.{Found}
+use Rattle.reading.specs.declared.finding.Found.the-variants.{Hit, Absent, Met, WrongSize}
 
 -- a lookup's answer in document 01's numbers
 pub record Answer : Type 0 where

@@ -16,7 +16,7 @@ pub enum Found {
 }
 
 // What a walk finds that has come past so many nodes to no further one.
-fn found(pool: &[u64], n: usize, key: u64, nodes: usize, r: Ref) -> Found
+fn found_end(pool: &[u64], n: usize, key: u64, nodes: usize, r: Ref) -> Found
     requires { ⌜ Sized (now pool) n × Within n r ⌝ }
     ensures { λ f. ⌜ told f ≡ foundEnd (now (pool .entry)) key nodes r ⌝ }
 {
@@ -47,7 +47,7 @@ pub fn lookup(pool: &[u64], key: u64) -> Found
     loop {
         let r = pool::reference(n, x);
         let Ref::Node(j) = r else {
-            return found(pool, n, key, nodes, r);
+            return found_end(pool, n, key, nodes, r);
         };
         let Head::Branch(b) = walk::accept(w, pool::header(pool, n, j)) else {
             return Found::Met(nodes);

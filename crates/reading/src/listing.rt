@@ -4,6 +4,8 @@ ghost use Prim.Native.Nat.{ℕ, _+_, _-_, _<_, _≤_};
 ghost use lib.ListN.{length, replicate};
 ghost use Rattle.pool.specs.Sizes.{Sized};
 ghost use mathlib.Core.Bool.{false};
+ghost use Rattle.digits.specs.Loops.{scan};
+ghost use Rattle.walk.specs.Walks.{isChild};
 ghost use Rattle.reading.specs.Listings.{visit, damaged, leafOf, nodeOf, visitFrom, shown, listed, listOf};
 use digits::Header;
 use pool::Ref;
@@ -21,15 +23,15 @@ pub struct Listed {
 pub struct State {
     pub count: usize,
     pub met: usize,
-    pub phase: u8,
+    pub phase: usize,
 }
 
 // The phases: the visit goes on; a further entry was found; damage was met.
-const ON: u8 = 0;
+const ON: usize = 0;
 
-const FURTHER: u8 = 1;
+const FURTHER: usize = 1;
 
-const DAMAGE: u8 = 2;
+const DAMAGE: usize = 2;
 
 // A leaf is met.
 fn leaf(
@@ -83,19 +85,18 @@ fn spoil(s: State) -> State
     }
 }
 
-// The reference r is visited, with so many digits left: it is met at walk depth 16 - left.
-fn visit_ref(
+// The reference r is visited where no node is looked for: a node is damage here, as it is where no digit is left.
+fn visit_end(
     pool: &[u64],
     n: usize,
     from: u64,
-    left: usize,
     r: u64,
     keys: &mut [u64],
     values: &mut [u64],
     s: State,
 ) -> State
-    requires { ⌜ Sized (now pool) n × (length (now keys) ≡ length (now values)) × (left ≤ 16) ⌝ }
-    ensures { λ t. ⌜ visit (now (keys .exit)) (now (values .exit)) t ≡ visitFrom 17 (now (pool .entry)) n from (16 - left) r (visit (now (keys .entry)) (now (values .entry)) s) ⌝ }
+    requires { ⌜ Sized (now pool) n × (length (now keys) ≡ length (now values)) ⌝ }
+    ensures { λ t. ⌜ visit (now (keys .exit)) (now (values .exit)) t ≡ visitFrom 0 (now (pool .entry)) n from 16 r (visit (now (keys .entry)) (now (values .entry)) s) ⌝ }
 {
     let phase = s.phase;
     if phase != ON {
@@ -112,12 +113,40 @@ fn visit_ref(
             pool::leaf_value(pool, n, i),
             s,
         ),
-        Ref::Node(j) => visit_node(pool, n, from, left, j, keys, values, s),
+        Ref::Node(_) => spoil(s),
         Ref::Bad => spoil(s),
     }
 }
 
-// Node j is visited, with so many digits left: its children have fewer.
+// The reference r is visited, with so many digits left: it is met at walk depth 16 - left.
+fn visit_ref(
+    pool: &[u64],
+    n: usize,
+    from: u64,
+    left: usize,
+    r: u64,
+    keys: &mut [u64],
+    values: &mut [u64],
+    s: State,
+) -> State
+    requires { ⌜ Sized (now pool) n × (length (now keys) ≡ length (now values)) × (left ≤ 16) ⌝ }
+    ensures { λ t. ⌜ visit (now (keys .exit)) (now (values .exit)) t ≡ visitFrom 17 (now (pool .entry)) n from (16 - left) r (visit (now (keys .entry)) (now (values .entry)) s) ⌝ }
+{
+    if r <= pool::MOST {
+        return visit_end(pool, n, from, r, keys, values, s);
+    }
+    let phase = s.phase;
+    if phase != ON {
+        return s;
+    }
+    let Ref::Node(j) = pool::reference(n, r) else {
+        return spoil(s);
+    };
+    visit_node(pool, n, from, left, j, keys, values, s)
+}
+
+// Node j is visited, with so many digits left: its children have fewer. A child that is no node is visited without a call in the cycle, and
+// nothing is read after the stop.
 fn visit_node(
     pool: &[u64],
     n: usize,
@@ -134,19 +163,40 @@ fn visit_node(
     let Head::Branch(b) = walk::accept(Header::DIGITS - left, pool::header(pool, n, j)) else {
         return spoil(s);
     };
-    if walk::children(pool, n, j) == 0 {
+    let mut c = next_child(pool, n, j, 0);
+    if Header::CHILDREN <= c {
         return spoil(s);
     }
     let mut t = s;
-    let mut c: usize = 0;
     while c < Header::CHILDREN {
         let r = pool::child(pool, n, j, c);
-        if r != 0 {
+        if r <= pool::MOST {
+            t = visit_end(pool, n, from, r, keys, values, t);
+        } else {
             t = visit_ref(pool, n, from, Header::DIGITS - 1 - b, r, keys, values, t);
+        }
+        let phase = t.phase;
+        if phase != ON {
+            return t;
+        }
+        c = next_child(pool, n, j, c + 1);
+    }
+    t
+}
+
+// The lowest child of node j from the place `at` on, 16 for none.
+fn next_child(pool: &[u64], n: usize, j: usize, at: usize) -> usize
+    requires { ⌜ Sized (now pool) n × (j + 1 < n) ⌝ }
+    ensures { λ c. ⌜ c ≡ scan (16 - at) at (isChild (now (pool .entry)) n j) ⌝ }
+{
+    let mut c = at;
+    while c < Header::CHILDREN {
+        if pool::child(pool, n, j, c) != 0 {
+            return c;
         }
         c += 1;
     }
-    t
+    c
 }
 
 // Every entry of a buffer becomes 0.

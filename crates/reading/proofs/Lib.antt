@@ -1,0 +1,4 @@
+pub mod Loops
+pub mod Visits
+pub mod Lookups
+pub mod Listings

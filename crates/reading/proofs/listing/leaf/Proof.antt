@@ -1,0 +1,75 @@
+-- `leaf` judges in the definition's order: the count of leaves met, the key, the room. Assumes nothing.
+use borrow.Author.Needs.{needs}
+use borrow.Author.Tests.{lt-ltb, le-ltb, le-leb, lt-leb}
+use Rattle.reading.specs.Listings.{leafOf}
+use Rattle.reading.proofs.listing.leaf.Statement.{statement}
+use Rattle.reading.proofs.listing.leaf.Tie as tie
+
+spoil-requires : tie.Need-spoil-requires
+spoil-requires c κs = search needs
+
+returns : tie.Need-returns
+unfolding leafOf
+returns c = simp (le-leb _ _ (c .before .if1 .taken), c .spoil .ensures)
+
+add-t11 : tie.Need-add-t11
+add-t11 c = search needs
+
+returns-2 : tie.Need-returns-2
+unfolding leafOf
+returns-2 c = simp (lt-leb _ _ (c .before .if1 .left), lt-ltb _ _ (c .if2 .taken))
+
+add-t13 : tie.Need-add-t13
+add-t13 c = search needs
+
+returns-3 : tie.Need-returns-3
+unfolding leafOf
+returns-3 c = simp (lt-leb _ _ (c .before .before .if1 .left), le-ltb _ _ (c .before .if2 .left), le-leb _ _ (c .if3 .taken))
+
+mul-keys : tie.Need-mul-keys
+mul-keys c = search needs
+
+slice-write-keys : tie.Need-slice-write-keys
+slice-write-keys c = search needs
+
+mul-values : tie.Need-mul-values
+mul-values c = search needs
+
+slice-write-values : tie.Need-slice-write-values
+slice-write-values c = search needs
+
+add-t12 : tie.Need-add-t12
+add-t12 c = search needs
+
+add-t16 : tie.Need-add-t16
+add-t16 c = search needs
+
+same-length : tie.Need-same-length
+same-length c = search needs
+
+same-length-2 : tie.Need-same-length-2
+same-length-2 c = search needs
+
+returns-4 : tie.Need-returns-4
+unfolding leafOf
+returns-4 c = simp (lt-leb _ _ (c .before .before .if1 .left), le-ltb _ _ (c .before .if2 .left), lt-leb _ _ (c .if3 .left))
+
+pub leaf-spec : {M : Type 1} → statement M
+leaf-spec =
+    tie.close
+    (tie.spec
+    spoil-requires
+    returns
+    add-t11
+    returns-2
+    add-t13
+    returns-3
+    mul-keys
+    slice-write-keys
+    mul-values
+    slice-write-values
+    add-t12
+    add-t16
+    same-length
+    same-length-2
+    returns-4)

@@ -1,0 +1,103 @@
+-- `list` refuses in the order 1, 6, 2, and else answers what the visit of the root left. Assumes nothing.
+use mathlib.Core.Path.{_∙_}
+use native.Mathlib.Omega.{arith}
+use borrow.Author.Needs.{needs}
+use Rattle.reading.specs.Listings.{visit}
+use Rattle.reading.proofs.Listings.{list-wrong, list-none, list-unequal, list-judged, judged-damage, judged-done}
+use Rattle.reading.proofs.listing.list.Statement.{statement}
+use Rattle.reading.proofs.listing.list.Tie as tie
+
+capacity-requires : tie.Need-capacity-requires
+capacity-requires c κs = search needs
+
+enum-known-n : tie.Need-enum-known-n
+enum-known-n c = search needs
+
+enum-told : tie.Need-enum-told
+enum-told c = search needs
+
+refused-requires : tie.Need-refused-requires
+refused-requires c κs = search needs
+
+returns : tie.Need-returns
+returns c = rw (c .refused .ensures) (list-wrong _ _ _ _ (c .before .before .before .capacity .ensures .0) (c .before .enum-told .given .1))
+
+refused-requires-2 : tie.Need-refused-requires-2
+refused-requires-2 c κs = search needs
+
+returns-2 : tie.Need-returns-2
+returns-2 c = rw (c .refused2 .ensures) (list-none _ _ _ _ (c .before .before .before .before .before .capacity .ensures .0) (c .before .before .before .n .given .1) (c .before .if1 .taken))
+
+refused-requires-3 : tie.Need-refused-requires-3
+refused-requires-3 c κs = search needs
+
+returns-3 : tie.Need-returns-3
+returns-3 c = rw (c .refused3 .ensures) (list-unequal _ _ _ _ (c .before .before .before .before .before .before .capacity .ensures .0) (c .before .before .before .before .n .given .1) (c .before .before .if1 .left) (c .before .if2 .taken))
+
+shared-slice-read-visit-ref : tie.Need-shared-slice-read-visit-ref
+shared-slice-read-visit-ref c =
+    let z = rw (c .before .before .before .before .n .given .1) at (c .before .before .before .before .before .before .capacity .ensures .1) in
+    omega arith
+
+visit-ref-requires : tie.Need-visit-ref-requires
+visit-ref-requires c κs = (rw (c .before .before .before .before .before .before .n .given .1) at (c .before .before .before .before .before .before .before .before .capacity .ensures .1), c .before .before .before .if2 .left, omega arith)
+
+clear-requires : tie.Need-clear-requires
+clear-requires c κs = search needs
+
+clear-requires-2 : tie.Need-clear-requires-2
+clear-requires-2 c κs = search needs
+
+refused-requires-4 : tie.Need-refused-requires-4
+refused-requires-4 c κs = search needs
+
+same-length : tie.Need-same-length
+same-length c = search needs
+
+same-length-2 : tie.Need-same-length-2
+same-length-2 c = search needs
+
+returns-4 : tie.Need-returns-4
+returns-4 c =
+    let v = c .before .before .before .before .before .before .before .before .before .before .before .before .before .before in
+    let r = v .before .before .before .before .before .before .before .before .before .capacity .ensures .0 in
+    rw (c .refused4 .ensures)
+    (judged-damage (visit _ _ _) (c .before .before .before .before .before .before .before .before .before .if3 .taken) (c .before .before .before .before .before .before .before .clear .ensures) (c .before .before .before .clear2 .ensures)
+    ∙ list-judged _ _ _ _ r (v .before .before .before .before .before .before .before .n .given .1) (v .before .before .before .before .before .if1 .left) (v .before .before .before .before .if2 .left) (v .visit-ref .ensures))
+
+same-length-3 : tie.Need-same-length-3
+same-length-3 c = search needs
+
+same-length-4 : tie.Need-same-length-4
+same-length-4 c = search needs
+
+returns-5 : tie.Need-returns-5
+returns-5 c =
+    let v = c .before .before .before .before .before in
+    let r = v .before .before .before .before .before .before .before .before .before .capacity .ensures .0 in
+    judged-done (visit _ _ _) (c .if3 .left) ∙ list-judged _ _ _ _ r (v .before .before .before .before .before .before .before .n .given .1) (v .before .before .before .before .before .if1 .left) (v .before .before .before .before .if2 .left) (v .visit-ref .ensures)
+
+pub list-spec : {M : Type 1} → statement M
+list-spec =
+    tie.close
+    (tie.spec
+    capacity-requires
+    enum-known-n
+    enum-told
+    refused-requires
+    returns
+    refused-requires-2
+    returns-2
+    refused-requires-3
+    returns-3
+    shared-slice-read-visit-ref
+    visit-ref-requires
+    clear-requires
+    clear-requires-2
+    refused-requires-4
+    same-length
+    same-length-2
+    returns-4
+    same-length-3
+    same-length-4
+    returns-5)
