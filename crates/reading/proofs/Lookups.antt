@@ -18,7 +18,7 @@ use Rattle.walk.specs.declared.Spot.{Spot}
 use Rattle.walk.specs.declared.End.{End}
 use Rattle.walk.specs.declared.End.the-variants.{Damaged}
 use Rattle.walk.proofs.Heads.{NoNode, Refused}
-use Rattle.walk.proofs.Walks.{Walks, ends, damaged, goes, walk-end}
+use Rattle.walk.proofs.Walks.{Walks, ends, damaged, goes, walk-one-end}
 use Rattle.reading.specs.Lookups.{Answer, answer, foundEnd, foundAt, lookupOf}
 
 -- the walk along the key comes past so many nodes to the word x, at walk depth w
@@ -42,7 +42,7 @@ module _ {pool : List ℕ} {n key : ℕ} where
         passed = refl;
         nodes≤ = omega arith;
         w≤ = omega arith;
-        onward = λ e w. walk-end pool n key 16 w 17 (omega arith) (omega arith);
+        onward = λ e w. walk-one-end pool n key 16 w 17 (omega arith) (omega arith);
       }
 
   module _ {x w nodes : ℕ} (c : Comes pool n key x w nodes) where

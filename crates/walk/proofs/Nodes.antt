@@ -16,10 +16,10 @@ use Rattle.walk.proofs.Loops.{scan-here, scan-next, scan-true, tally-tr
 module _ (pool : List ℕ) (n j : ℕ) where
   -- the word x of child c is a child, or none
   module _ (c : ℕ) {x : ℕ} (e : x ≡ childAt pool n j c) where
-    is-child : (x ≡ 0 → ⊥) → isChild pool n j c ≡ true
+    pub is-child : (x ≡ 0 → ⊥) → isChild pool n j c ≡ true
     is-child h = rw (← e, ne-eqb x 0 h)
 
-    no-child : x ≡ 0 → isChild pool n j c ≡ false
+    pub no-child : x ≡ 0 → isChild pool n j c ≡ false
     no-child h = rw (← e, eq-eqb x 0 h)
 
     pub counted : (x ≡ 0 → ⊥) → tally (c + 1) (isChild pool n j) ≡ tally c (isChild pool n j) + 1
