@@ -13,7 +13,8 @@ use Rattle.writing.specs.Puts.{putPlan}
 use Rattle.writing.specs.Deletes.{deletePlan}
 use Rattle.writing.specs.Calls.{Left, putOf, deleteOf}
 use Rattle.opening.specs.Soundness.{Sound}
-use Rattle.demands.specs.Tables.{Table, given, without, Word, Words, Names, Reads, Exact}
+use Rattle.reading.specs.Rows.{Word, Words}
+use Rattle.demands.specs.Tables.{Table, given, without, Names, Reads, Exact}
 
 -- a sound pool with an exact map, and the table of names that it reads as
 pub record Reading (pool map : List ℕ) (T : Table) : Type 0 where

@@ -18,7 +18,8 @@ use Rattle.writing.specs.Puts.{putPlan}
 use Rattle.writing.specs.Deletes.{deletePlan}
 use Rattle.writing.specs.Calls.{Left, putOf, deleteOf, formatOf}
 use Rattle.opening.specs.Openings.{openOf, openSteps}
-use Rattle.demands.specs.Tables.{Table, blank, given, without, Word, Reads}
+use Rattle.reading.specs.Rows.{Word}
+use Rattle.demands.specs.Tables.{Table, blank, given, without, Reads}
 use Rattle.demands.specs.Demand2.{Reading}
 
 -- an operation: a put of a file number under a name, or a delete of a name
