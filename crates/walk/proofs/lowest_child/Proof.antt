@@ -11,10 +11,10 @@ use Rattle.walk.proofs.lowest_child.Statement.{statement}
 use Rattle.walk.proofs.lowest_child.Tie as tie
 
 abbrev Inv-loop : tie.InvT-loop
-Inv-loop pool n j c₀ c = (c ≤ 16) × (scan (16 - c) c (isChild pool n j) ≡ lowestChild pool n j)
+Inv-loop pool n j lowest₀ lowest = (lowest ≤ 16) × (scan (16 - lowest) lowest (isChild pool n j) ≡ lowestChild pool n j)
 
 abbrev μ-loop : tie.MeasureT-loop
-μ-loop pool n j c₀ c = 16 - c
+μ-loop pool n j lowest₀ lowest = 16 - lowest
 
 loop-holds : tie.Need-loop-holds Inv-loop μ-loop
 loop-holds c = (search needs, refl)
@@ -27,8 +27,8 @@ returns c =
     let a = c .before .before .before .before .before .args in
     lowest-here (a .pool .now) (a .n) (a .j) _ (c .before .child .ensures) (c .if1 .taken) ∙ c .before .before .before .loop .inv .1
 
-add-c : tie.Need-add-c Inv-loop μ-loop
-add-c c = search needs
+add-lowest : tie.Need-add-lowest Inv-loop μ-loop
+add-lowest c = search needs
 
 loop-less : tie.Need-loop-less Inv-loop μ-loop
 loop-less c = search needs
@@ -50,7 +50,7 @@ lowest-child-spec =
     loop-holds
     child-requires
     returns
-    add-c
+    add-lowest
     loop-less
     loop-again
     returns-2)

@@ -12,10 +12,10 @@ use Rattle.walk.proofs.other_child.Statement.{statement}
 use Rattle.walk.proofs.other_child.Tie as tie
 
 abbrev Inv-loop : tie.InvT-loop
-Inv-loop pool n j at c₀ c = (c ≤ 16) × (scan (16 - c) c (isOther pool n j at) ≡ otherChild pool n j at)
+Inv-loop pool n j at other₀ other = (other ≤ 16) × (scan (16 - other) other (isOther pool n j at) ≡ otherChild pool n j at)
 
 abbrev μ-loop : tie.MeasureT-loop
-μ-loop pool n j at c₀ c = 16 - c
+μ-loop pool n j at other₀ other = 16 - other
 
 loop-holds : tie.Need-loop-holds Inv-loop μ-loop
 loop-holds c = (search needs, refl)
@@ -39,8 +39,8 @@ returns c =
     other-here (a .pool .now) (a .n) (a .j) (a .at) _ (λ e. c .before .before .if1 .taken (omega (arith, e, w))) (c .before .child .ensures) (c .if2 .taken)
     ∙ c .before .before .before .before .before .loop .inv .1
 
-add-c : tie.Need-add-c Inv-loop μ-loop
-add-c c = search needs
+add-other : tie.Need-add-other Inv-loop μ-loop
+add-other c = search needs
 
 loop-less : tie.Need-loop-less Inv-loop μ-loop
 loop-less c = search needs
@@ -51,8 +51,8 @@ loop-again c =
     let l = c .before .before .before .loop in
     let w = c .before .node-word .ensures in (
       search needs,
-      ⊎-elim (λ u. other-later (a .pool .now) (a .n) (a .j) (a .at) (l .c) (search needs) (u .1 .ensures) (u .2 .left))
-          (λ u. given-later (a .pool .now) (a .n) (a .j) (a .at) (l .c) (search needs) (omega (arith, u .left, w))) (c .if1 .came)
+      ⊎-elim (λ u. other-later (a .pool .now) (a .n) (a .j) (a .at) (l .other) (search needs) (u .1 .ensures) (u .2 .left))
+          (λ u. given-later (a .pool .now) (a .n) (a .j) (a .at) (l .other) (search needs) (omega (arith, u .left, w))) (c .if1 .came)
           ∙ l .inv .1,
     )
 
@@ -71,7 +71,7 @@ other-child-spec =
     add-if1-2
     child-requires
     returns
-    add-c
+    add-other
     loop-less
     loop-again
     returns-2)
