@@ -6,7 +6,7 @@ use Prim.Native.Nat.{ℕ}
 use Rattle.tree.specs.Stores.{Store}
 use Rattle.plan.specs.declared.Plan.{Plan}
 use Rattle.plan.specs.declared.Effect.the-variants.{TakesLeaf, TakesBoth, FreesBoth}
-use Rattle.plan.specs.Plans.{made, planOf, after, stepOf, finishOf, ran, stepsFrom, runOf}
+use Rattle.plan.specs.Plans.{planOf, after, stepOf, finishOf, ran, stepsFrom, runOf}
 
 -- two stores, word 3 := 40 and then word 1 := 2, that take byte 0 of the map
 stores : List Store

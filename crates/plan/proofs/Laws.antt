@@ -41,7 +41,7 @@ unfolding made Words
 made-off [] l i off = refl
 made-off (s ∷ σ) l i off = made-off σ (set l (s .word) (s .value)) i (off .1) ∙ getD-set-other l (s .word) i (s .value) 0 (off .0)
 
--- words that are those of a memory are those of the memory after the same stores
+-- words that agree with a memory agree with it after the same stores
 pub made-same : (σ : List Store) (l : List ℕ) (m : Mem) → Words (λ w. w < length l) σ → ((i : ℕ) → getD l i 0 ≡ m i) → (i : ℕ) → getD (made σ l) i 0 ≡ run σ m i
 unfolding made run Words
 made-same [] l m inside eq i = eq i
@@ -72,7 +72,7 @@ padded-at zero m (x ∷ l) i d few = absurd (not-suc-le-zero few)
 padded-at (suc n) m (x ∷ l) zero d few = refl
 padded-at (suc n) m (x ∷ l) (suc i) d few = padded-at n m l i d (le-of-suc-le-suc few)
 
--- every store's word has what one store's word is asked for
+-- what the word of every store has, the word of store i has
 pub words-at : (P : ℕ → Type 0) (σ : List Store) (i : ℕ) → i < length σ → Words P σ → P (getD σ i unused .word)
 unfolding Words
 words-at P [] i h all = absurd (not-suc-le-zero h)
@@ -121,7 +121,7 @@ steps-end p n i l {m} h z a =
     rw e
     (⊎-elim (λ s. absurd (z (ap (λ (x : After). x .number) (a ∙ s)))) (λ s. steps-suc (n - (i + 1)) p i l s ∙ ap (λ (x : After). ran i (x .left)) (sym (a ∙ s))) (step-either p i l))
 
--- none are left
+-- no steps are left
 pub steps-none : (p : Plan) (n i : ℕ) (l : List ℕ) → n ≤ i → stepsFrom (n - i) p i l ≡ ran i l
 unfolding stepsFrom
 steps-none p n i l h =
@@ -181,6 +181,7 @@ module _ (σ : List Store) (e : Effect) (few : length σ ≤ 21) where
     unfolding made
     run-made n = rw zero-add at (steps-made n 0 (omega arith))
 
+    -- a run of as many steps as there are stores, or more, makes them all
     pub run-whole : (n : ℕ) → length σ ≤ n → runOf n (planOf σ e) pool ≡ ran (length σ) (made σ pool)
     run-whole n h =
         let a : min n (length σ) ≡ length σ = omega arith in
@@ -256,7 +257,7 @@ module _ (e : Effect) (bytes : List ℕ) where
   length-finish =
       ⊎-elim (λ h. rw (h .1) (length-made (marks 1 (takes e)) (made (marks 0 (frees e)) bytes) ∙ length-made (marks 0 (frees e)) bytes)) (λ h. rw (h .1)) (finished e bytes)
 
-  -- a named byte is outside
+  -- where a named byte is outside, nothing changes
   pub finish-refused : (Inside e (length bytes) → ⊥) → finishOf e bytes ≡ after 5 bytes
   finish-refused out = ⊎-elim (λ h. absurd (out (h .0))) (λ h. h .1) (finished e bytes)
 
@@ -264,6 +265,7 @@ module _ (e : Effect) (bytes : List ℕ) where
     finish-made : finishOf e bytes ≡ after 0 (made (marks 1 (takes e)) (made (marks 0 (frees e)) bytes))
     finish-made = ⊎-elim (λ h. h .1) (λ h. absurd (h .0 inside)) (finished e bytes)
 
+    -- where all are inside, it is done
     pub finish-done : finishOf e bytes .number ≡ 0
     finish-done = rw finish-made
 

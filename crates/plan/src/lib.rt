@@ -1,8 +1,6 @@
 // Plans: at most 21 stores in order, each made by one step, and what they do to the map.
 ghost use mathlib.Core.Path.{_≡_};
 ghost use mathlib.Core.List.{[]};
-ghost use Prim.Native.Nat.{ℕ, _+_, _<_, _≤_};
-ghost use lib.ListN.{length};
 ghost use Rattle.plan.specs.Plans.{planOf, refused, plannedOf, after, storeOf, storesOf, stepOf, finishOf, ran, runOf};
 
 // What a plan does to the map. Slots are named by their byte number in the map.
