@@ -1,0 +1,4 @@
+pub mod Shifts
+pub mod Loops
+pub mod Surveys
+pub mod Turns
