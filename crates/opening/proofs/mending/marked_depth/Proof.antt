@@ -1,3 +1,5 @@
+use Prim.Native.Nat.{_+_}
+use native.Mathlib.Omega.{arith}
 use borrow.Author.Needs.{needs}
 use Rattle.opening.proofs.mending.marked_depth.Statement.{statement}
 use Rattle.opening.proofs.mending.marked_depth.Tie as tie
@@ -14,7 +16,7 @@ shared-slice-read-mark c = search needs
 
 -- src/mending.rt:51:16
 cast-mark : tie.Need-cast-mark
-cast-mark c = ?
+cast-mark c = omega (arith, c .shared-slice-known .given (c .before .args .n + c .before .args .j))
 
 -- src/mending.rt:52:31
 sub-result : tie.Need-sub-result

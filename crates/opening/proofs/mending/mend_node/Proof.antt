@@ -1,3 +1,5 @@
+use native.Mathlib.Omega.{arith}
+use Rattle.opening.proofs.Openings.{mend-unneeded, mend-undone, mend-done}
 use borrow.Author.Needs.{needs}
 use Rattle.opening.proofs.mending.mend_node.Statement.{statement}
 use Rattle.opening.proofs.mending.mend_node.Tie as tie
@@ -20,7 +22,9 @@ same-length c = search needs
 
 -- src/mending.rt:151:9
 returns : tie.Need-returns
-returns c = ?
+returns c = 
+    let a = c .before .before .before .before .before .args in
+    mend-unneeded (a .n) (a .map .now) (a .j) (a .pool .now) (c .before .is-stale .ensures) (c .if1 .taken)
 
 -- src/mending.rt:153:53
 marked-depth-requires : tie.Need-marked-depth-requires
@@ -44,7 +48,9 @@ same-length-2 c = search needs
 
 -- src/mending.rt:154:9
 returns-2 : tie.Need-returns-2
-returns-2 c = ?
+returns-2 c = 
+    let a = c .before .before .before .before .before .before .before .before .before .before .args in
+    mend-undone (a .n) (a .map .now) (a .j) (a .pool .now) (c .before .before .before .before .before .before .is-stale .ensures) (c .before .before .before .before .before .if1 .left) (c .before .before .before .marked-depth .ensures) (rw (c .enum-told .given .1) at (c .before .before .fresh-header .ensures))
 
 -- src/mending.rt:156:34
 node-word-requires : tie.Need-node-word-requires
@@ -64,7 +70,10 @@ same-length-3 c = search needs
 
 -- src/mending.rt:146:1
 returns-3 : tie.Need-returns-3
-returns-3 c = ?
+returns-3 c = 
+    let a = c .before .before .before .before .before .before .before .before .before .before .before .before .before .before .before .before .before .args in
+    mend-done (a .n) (a .map .now) (a .j) (a .pool .now) (c .before .before .before .before .before .before .before .before .before .before .before .before .before .is-stale .ensures) (c .before .before .before .before .before .before .before .before .before .before .before .before .if1 .left) (c .before .before .before .before .before .before .before .before .before .before .marked-depth .ensures) (rw (c .before .before .before .before .before .before .before .word .given .1) at (c .before .before .before .before .before .before .before .before .before .fresh-header .ensures))
+        (omega (arith, c .before .before .before .before .before .before .before .before .before .before .before .before .before .before .before .before .before .pre .0 .words, c .before .before .before .before .before .before .before .before .before .before .before .before .before .before .before .before .before .pre .2)) (c .before .before .before .before .node-word .ensures) (c .before .before .before .plan-of-one .ensures) (c .before .before .step .ensures)
 
 pub mend-node-spec : {M : Type 1} → statement M
 mend-node-spec =

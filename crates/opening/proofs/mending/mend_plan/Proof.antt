@@ -1,3 +1,8 @@
+use mathlib.Core.Path.{ap, _∙_}
+use mathlib.Core.List.{List}
+use Rattle.tree.specs.Stores.{Store}
+use Rattle.plan.specs.Plans.{planOf}
+use Rattle.plan.specs.declared.Effect.the-variants.{Nothing}
 use borrow.Author.Needs.{needs}
 use Rattle.opening.proofs.mending.mend_plan.Statement.{statement}
 use Rattle.opening.proofs.mending.mend_plan.Tie as tie
@@ -26,7 +31,7 @@ none-requires c κs = search needs
 
 -- src/mending.rt:91:9
 returns : tie.Need-returns
-returns c = ?
+returns c = c .none .ensures ∙ ap (λ (σ : List Store). planOf σ Nothing) (rw (c .before .enum-told .given .1) at (c .before .before .before .fresh-header .ensures))
 
 -- src/mending.rt:93:17
 node-word-requires : tie.Need-node-word-requires
@@ -38,7 +43,7 @@ plan-of-one-requires c κs = search needs
 
 -- src/mending.rt:86:1
 returns-2 : tie.Need-returns-2
-returns-2 c = ?
+returns-2 c = c .plan-of-one .ensures ∙ rw (c .before .node-word .ensures) (ap (λ (σ : List Store). planOf σ Nothing) (rw (c .before .before .before .word .given .1) at (c .before .before .before .before .before .fresh-header .ensures)))
 
 pub mend-plan-spec : {M : Type 1} → statement M
 mend-plan-spec =
