@@ -3,3 +3,10 @@ pub mod Loops
 pub mod Surveys
 pub mod Turns
 pub mod Openings
+pub mod SoundTree
+pub mod TreeMarks
+pub mod HeldSurvey
+pub mod HeldMends
+pub mod HeldOpens
+pub mod HeldReached
+pub mod SoundHeld
