@@ -3,3 +3,5 @@ pub mod Loops
 pub mod Surveys
 pub mod Turns
 pub mod Openings
+pub mod Marks
+pub mod Answers

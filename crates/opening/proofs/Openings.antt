@@ -170,7 +170,7 @@ flat-same m = go (eqb m 0)
 
 -- and just as many slots are reached
 pub keys-flat : (n : ℕ) (marks : List ℕ) → keysOf n (map reached marks) ≡ keysOf n marks
-keys-flat n marks = tally-same _ _ (λ i. rw (List·getD-map reached marks i 0) (ap not (flat-same (getD marks i 0)))) n
+keys-flat n marks = tally-same _ _ n (λ i l. rw (List·getD-map reached marks i 0) (ap not (flat-same (getD marks i 0))))
 
 pub restores : (n : ℕ) (marks pool : List ℕ) {p m : List ℕ} {h k : ℕ} → mends p h ≡ mended n marks (n - 1) pool → m ≡ map reached marks → k ≡ keysOf n m
     → left (opened 0 k h) p m ≡ restored n marks pool
