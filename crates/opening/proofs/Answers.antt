@@ -2,8 +2,8 @@
 -- promise. Assumes nothing.
 use mathlib.Core.Path.{_≡_, refl, sym, ap, _∙_}
 use mathlib.Core.Bool.{Bool, true, false}
-use mathlib.Core.List.{List, [], _∷_, map}
-use Prim.Native.Nat.{ℕ, zero, suc, _+_, _-_, _*_, _≤_, _<_}
+use mathlib.Core.List.{List, [], map}
+use Prim.Native.Nat.{ℕ, zero, suc, _+_, _-_, _≤_, _<_}
 use native.Mathlib.Omega.{arith}
 use borrow.Author.Tests.{eqb-true, ltb-true}
 use lib.Dec.{eqb, ltb}
@@ -12,7 +12,7 @@ use Rattle.digits.specs.Choice.{pick}
 use Rattle.digits.specs.Loops.{upto}
 use Rattle.tree.specs.Stores.{Store}
 use Rattle.tree.proofs.Stores.{Words}
-use Rattle.pool.specs.Sizes.{Sized, Measured, capacityOf, bytesOf}
+use Rattle.pool.specs.Sizes.{Sized, capacityOf, bytesOf}
 use Rattle.pool.specs.Places.{headerAt, nodeWord, nodeRef}
 use Rattle.pool.specs.declared.Size.{Size}
 use Rattle.pool.specs.declared.Size.the-variants.{Holds, Wrong}
@@ -22,13 +22,13 @@ use Rattle.walk.specs.declared.Head.{Head}
 use Rattle.walk.specs.declared.Head.the-variants.{Branch, Wrong as Unaccepted}
 use Rattle.walk.specs.declared.Lowest.{Lowest}
 use Rattle.walk.specs.declared.Lowest.the-variants.{Key, NoKey}
-use Rattle.plan.specs.Plans.{made, Decided, plannedOf}
+use Rattle.plan.specs.Plans.{Decided, plannedOf}
 use Rattle.plan.specs.declared.Planned.{Planned}
 use Rattle.plan.specs.declared.Effect.the-variants.{Nothing}
 use Rattle.plan.proofs.Laws.{length-made}
 use Rattle.opening.specs.declared.mending.Opened.{Opened}
-use Rattle.opening.specs.Surveys.{Survey, surveyOf}
-use Rattle.opening.specs.Openings.{depthMarked, stale, mendWith, mendAt, mendOf, firstStale, mendFirst, openJudged, openIn, openPlan, Mended, mends, mendNode, mended, reached, keysOf, opened, Left, left, restored, leftJudged, leftIn, openOf}
+use Rattle.opening.specs.Surveys.{surveyOf}
+use Rattle.opening.specs.Openings.{depthMarked, stale, mendWith, mendAt, mendOf, firstStale, mendFirst, openIn, openPlan, Mended, mendNode, mended, reached, opened, Left, left, restored, leftIn, openOf}
 use Rattle.opening.proofs.Loops.{pick-both}
 use Rattle.opening.proofs.Openings.{mend-few, bytes-flat, few-keys}
 use Rattle.opening.proofs.Marks.{survey-length}
@@ -57,6 +57,7 @@ module _ (pool : List ℕ) where
       low : (b : ℕ) (k : Lowest) → Words (λ x. x < length pool) (mendWith n w j b k)
       low b (Key k) = (l, tt)
       low b NoKey = tt
+
       go : (h : Head) → Words (λ x. x < length pool) (mendAt pool n w j h)
       go (Branch b) = low b (lowestOf pool n w (nodeRef j))
       go Unaccepted = tt
@@ -67,6 +68,7 @@ module _ (pool : List ℕ) where
     where
       j : ℕ
       j = firstStale pool n marks
+
       go : (t : Bool) → ltb (firstStale pool n marks) (n - 1) ≡ t → Words (λ x. x < length pool) (pick t (mendOf pool n (depthMarked marks n (firstStale pool n marks)) (firstStale pool n marks)) [])
       go true e = mend-inside n _ _ (omega (arith, ltb-true (firstStale pool n marks) (n - 1) e))
       go false e = tt
@@ -136,6 +138,7 @@ module _ (pool bytes : List ℕ) where
       at n e true f true g = done n (record { size = e; long = eqb-true (length bytes) (bytesOf n) f; judged = g })
       at n e true f false g = damage n (record { size = e; long = eqb-true (length bytes) (bytesOf n) f; judged = g })
       at n e false f s g = size
+
       go : (x : Size) → capacityOf pool ≡ x → Leaves pool bytes (leftIn pool bytes x)
       go (Holds n) e = at n e (eqb (length bytes) (bytesOf n)) refl (surveyOf pool n .census .sound) refl
       go Wrong e = size

@@ -5,3 +5,4 @@ pub mod Turns
 pub mod Openings
 pub mod Marks
 pub mod Answers
+pub mod Examples

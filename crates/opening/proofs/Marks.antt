@@ -1,6 +1,6 @@
 -- What a survey marks: slots that were not marked before, one after the other. So it meets each slot at most once: at most n leaves and n - 1
 -- nodes, and as many leaves as it finds keys. Assumes nothing.
-use mathlib.Core.Path.{_≡_, refl, sym, ap, _∙_}
+use mathlib.Core.Path.{_≡_, refl, sym, _∙_}
 use mathlib.Core.Bool.{Bool, true, false, not}
 use mathlib.Core.List.{List, [], _∷_}
 use mathlib.Core.Logic.{_≢_}
@@ -74,6 +74,7 @@ module _ (pool : List ℕ) (n : ℕ) where
       where
         kids : Gathered
         kids = upto 16 (kidOf go pool n j b) (gathered (set (v .marks) (n + j) (w + 1)) (gather (v .census) 0 false))
+
         met : (t : Bool) → eqb (getD (v .marks) (n + j) 0) 0 ≡ t → Marking n (v .marks) (pick t (closed (headerAt pool n j) kids) (survey (v .marks) (census (v .census .last) false)) .marks)
         met true e = node j w l (omega arith) (eqb-true (getD (v .marks) (n + j) 0) 0 e) (kids-marking j b (gathered (set (v .marks) (n + j) (w + 1)) (gather (v .census) 0 false)))
         met false e = none
