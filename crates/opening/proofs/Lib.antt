@@ -3,6 +3,9 @@ pub mod Loops
 pub mod Surveys
 pub mod Turns
 pub mod Openings
+pub mod Marks
+pub mod Answers
+pub mod Examples
 pub mod SoundTree
 pub mod TreeMarks
 pub mod HeldSurvey
