@@ -1,10 +1,9 @@
 -- A listing's answer, by its tests in order.
 -- Assumes nothing.
-use mathlib.Core.Path.{_≡_, refl, sym, ap, _∙_}
-use mathlib.Core.Bool.{Bool, true, false}
+use mathlib.Core.Path.{_≡_}
+use mathlib.Core.Bool.{false}
 use mathlib.Core.List.{List}
-use Prim.Native.Nat.{ℕ, zero, suc, _+_, _≤_, _<_}
-use native.Mathlib.Omega.{arith}
+use Prim.Native.Nat.{ℕ}
 use borrow.Author.Tests.{eq-eqb, ne-eqb}
 use lib.Dec.{eqb}
 use lib.ListN.{length, replicate}
@@ -12,7 +11,7 @@ use Rattle.pool.specs.Sizes.{capacityOf}
 use Rattle.pool.specs.Places.{wordAt}
 use Rattle.pool.specs.declared.Size.{Size}
 use Rattle.pool.specs.declared.Size.the-variants.{Holds, Wrong}
-use Rattle.reading.specs.Listings.{Visit, state, visit, visitFrom, Shown, shown, listed, judged, listOf}
+use Rattle.reading.specs.Listings.{Visit, state, visit, visitFrom, shown, listed, judged, listOf}
 
 -- "Order: 1, 6, 2"
 module _ (pool : List ℕ) (from : ℕ) (ks vs : List ℕ) {r : Size} (e : r ≡ capacityOf pool) where

@@ -2,7 +2,7 @@
 -- Assumes nothing.
 use mathlib.Core.Path.{_≡_, refl, sym, ap, _∙_}
 use mathlib.Core.List.{List}
-use Prim.Native.Nat.{ℕ, _+_, _≤_, _<_}
+use Prim.Native.Nat.{ℕ, _+_, _≤_}
 use native.Mathlib.Omega.{arith}
 use Rattle.digits.specs.Digits.{digitOf}
 use Rattle.pool.specs.Sizes.{capacityOf}
@@ -19,7 +19,7 @@ use Rattle.walk.specs.declared.End.{End}
 use Rattle.walk.specs.declared.End.the-variants.{Damaged}
 use Rattle.walk.proofs.Heads.{NoNode, Refused}
 use Rattle.walk.proofs.Walks.{Walks, ends, damaged, goes, walk-one-end}
-use Rattle.reading.specs.Lookups.{Answer, answer, foundEnd, foundAt, lookupOf}
+use Rattle.reading.specs.Lookups.{answer, foundEnd, foundAt, lookupOf}
 
 -- the walk along the key comes past so many nodes to the word x, at walk depth w
 pub record Comes (pool : List ℕ) (n key x w nodes : ℕ) : Type 0 where

@@ -1,6 +1,6 @@
 -- `lookup` makes the walk along the key without keeping more of it than it answers. Assumes nothing.
-use mathlib.Core.Path.{_≡_, refl, sym, _∙_}
-use Prim.Native.Nat.{ℕ, _-_}
+use mathlib.Core.Path.{_≡_, _∙_}
+use Prim.Native.Nat.{_-_}
 use native.Mathlib.Omega.{arith}
 use borrow.Author.Needs.{needs}
 use Rattle.pool.specs.Sizes.{Sized}
@@ -48,7 +48,7 @@ enum-known-r : tie.Need-enum-known-r Inv-loop μ-loop
 enum-known-r c = search needs
 
 found-end-requires : tie.Need-found-end-requires Inv-loop μ-loop
-found-end-requires c κs = (c .before .before .loop .inv .0, c .before .reference .ensures .1)
+found-end-requires c κs = (c .before .before .loop .inv .0, search needs)
 
 returns-2 : tie.Need-returns-2 Inv-loop μ-loop
 returns-2 c =

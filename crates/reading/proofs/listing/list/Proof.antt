@@ -34,13 +34,16 @@ refused-requires-3 c κs = search needs
 returns-3 : tie.Need-returns-3
 returns-3 c = rw (c .refused3 .ensures) (list-unequal _ _ _ _ (c .before .before .before .before .before .before .capacity .ensures .0) (c .before .before .before .before .n .given .1) (c .before .before .if1 .left) (c .before .if2 .taken))
 
+new-requires : tie.Need-new-requires
+new-requires c κs = search needs
+
 shared-slice-read-visit-ref : tie.Need-shared-slice-read-visit-ref
 shared-slice-read-visit-ref c =
-    let z = rw (c .before .before .before .before .n .given .1) at (c .before .before .before .before .before .before .capacity .ensures .1) in
+    let z = rw (c .before .before .before .before .before .n .given .1) at (c .before .before .before .before .before .before .before .capacity .ensures .1) in
     omega arith
 
 visit-ref-requires : tie.Need-visit-ref-requires
-visit-ref-requires c κs = (rw (c .before .before .before .before .before .before .n .given .1) at (c .before .before .before .before .before .before .before .before .capacity .ensures .1), c .before .before .before .if2 .left, omega arith)
+visit-ref-requires c κs = (rw (c .before .before .before .before .before .before .before .n .given .1) at (c .before .before .before .before .before .before .before .before .before .capacity .ensures .1), c .before .before .before .before .if2 .left, omega arith)
 
 clear-requires : tie.Need-clear-requires
 clear-requires c κs = search needs
@@ -60,10 +63,10 @@ same-length-2 c = search needs
 returns-4 : tie.Need-returns-4
 returns-4 c =
     let v = c .before .before .before .before .before .before .before .before .before .before .before .before .before .before in
-    let r = v .before .before .before .before .before .before .before .before .before .capacity .ensures .0 in
+    let u = v .before .before .before .before in
     rw (c .refused4 .ensures)
     (judged-damage (visit _ _ _) (c .before .before .before .before .before .before .before .before .before .if3 .taken) (c .before .before .before .before .before .before .before .clear .ensures) (c .before .before .before .clear2 .ensures)
-    ∙ list-judged _ _ _ _ r (v .before .before .before .before .before .before .before .n .given .1) (v .before .before .before .before .before .if1 .left) (v .before .before .before .before .if2 .left) (v .visit-ref .ensures))
+    ∙ list-judged _ _ _ _ (u .before .before .before .before .before .before .capacity .ensures .0) (u .before .before .before .before .n .given .1) (u .before .before .if1 .left) (u .before .if2 .left) (rw (u .new .ensures) at (v .visit-ref .ensures)))
 
 same-length-3 : tie.Need-same-length-3
 same-length-3 c = search needs
@@ -74,8 +77,9 @@ same-length-4 c = search needs
 returns-5 : tie.Need-returns-5
 returns-5 c =
     let v = c .before .before .before .before .before in
-    let r = v .before .before .before .before .before .before .before .before .before .capacity .ensures .0 in
-    judged-done (visit _ _ _) (c .if3 .left) ∙ list-judged _ _ _ _ r (v .before .before .before .before .before .before .before .n .given .1) (v .before .before .before .before .before .if1 .left) (v .before .before .before .before .if2 .left) (v .visit-ref .ensures)
+    let u = v .before .before .before .before in
+    judged-done (visit _ _ _) (c .if3 .left)
+    ∙ list-judged _ _ _ _ (u .before .before .before .before .before .before .capacity .ensures .0) (u .before .before .before .before .n .given .1) (u .before .before .if1 .left) (u .before .if2 .left) (rw (u .new .ensures) at (v .visit-ref .ensures))
 
 pub list-spec : {M : Type 1} → statement M
 list-spec =
@@ -90,6 +94,7 @@ list-spec =
     returns-2
     refused-requires-3
     returns-3
+    new-requires
     shared-slice-read-visit-ref
     visit-ref-requires
     clear-requires
