@@ -110,7 +110,7 @@ open-plan-refused pool = go (capacityOf pool)
             × (pick b (decided (mendFirst pool n (surveyOf pool n .marks)) Nothing) (refused 2) .effect ≡ Nothing)
         judge true h = absurd (h refl)
         judge false h = (refl, refl)
-    go Wrong h = (refl, refl)
+    go Wrong = λ h. (refl, refl)
 
 -- ---- whole calls
 left-kept : {x : Left} {k : ℕ} {pool map : List ℕ} → x ≡ left (done k 0) pool map → (x .done .stores ≡ 0) × (x .pool ≡ pool) × (x .map ≡ map)
@@ -150,10 +150,10 @@ LookupSays a = OneOf (0 ∷ 1 ∷ 2 ∷ 3 ∷ []) (a .number) × ((a .number ≡
 
 lookup-says : {a : Answer} → Looks a → LookupSays a
 unfolding OneOf
-lookup-says (done h) = (inl refl, (λ z. absurd (z refl)), h)
-lookup-says (absent h) = (inr (inr (inr (inl refl))), (λ z. refl), h)
-lookup-says (damage h) = (inr (inr (inl refl)), (λ z. refl), h)
-lookup-says size = (inr (inl refl), (λ z. refl), omega arith)
+lookup-says (reading.done h) = (inl refl, (λ z. absurd (z refl)), h)
+lookup-says (reading.absent h) = (inr (inr (inr (inl refl))), (λ z. refl), h)
+lookup-says (reading.damage h) = (inr (inr (inl refl)), (λ z. refl), h)
+lookup-says reading.size = (inr (inl refl), (λ z. refl), omega arith)
 
 record ListSays (ks vs : List ℕ) (s : Shown) : Type 0 where
   number : OneOf (0 ∷ 1 ∷ 2 ∷ 6 ∷ []) (s .answer .number)

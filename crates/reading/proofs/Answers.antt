@@ -51,7 +51,7 @@ lookup-answers pool key = go (capacityOf pool) (capacity-fits pool)
     at-end (Damaged m) h = damage h
 
     go : (r : Size) → Measured pool r → Looks (foundIn pool key r)
-    go (Holds n) z = at-end (walkOf pool n key) (walk-nodes z 16 key refl)
+    go (Holds n) z = at-end (walkOf pool n key) (walk-nodes z key 16 refl)
     go Wrong z = size
 
 few : {a : Answer} → Looks a → a .nodes ≤ 16
