@@ -1,8 +1,8 @@
 -- Where a walk ends: inside the pool, after at most 16 nodes; stopped only before a node at or past `stop`, and else where the plain walk ends.
 -- Assumes nothing.
-use mathlib.Core.Path.{_≡_, refl, sym, _∙_}
+use mathlib.Core.Path.{_≡_, refl}
 use mathlib.Core.List.{List}
-use Prim.Native.Nat.{ℕ, _+_, _≤_, _<_}
+use Prim.Native.Nat.{ℕ, _≤_, _<_}
 use native.Mathlib.Omega.{arith}
 use Rattle.digits.proofs.Digits.{digit-lt}
 use Rattle.pool.specs.Sizes.{Sized}
@@ -14,9 +14,9 @@ use Rattle.walk.specs.declared.Spot.{Spot}
 use Rattle.walk.specs.declared.End.{End}
 use Rattle.walk.specs.declared.End.the-variants.{AtLeaf, AtEmpty, Stopped, Damaged}
 use Rattle.walk.specs.Walks.{root, below, endOf, walkTo, walkOf}
-use Rattle.walk.specs.Ends.{Accepted, Passed, Inside, Stands, Stops, Ends, nodesOf}
+use Rattle.walk.specs.Ends.{Accepted, Inside, Ends, nodesOf}
 use Rattle.walk.proofs.Heads.{NoNode}
-use Rattle.walk.proofs.Walks.{Walks, ends, damaged, stops, goes, walk-comes, walk-end}
+use Rattle.walk.proofs.Walks.{Walks, ends, damaged, stops, goes, walk-has-end, walk-one-end}
 
 module _ {pool : List ℕ} {n : ℕ} (z : Sized pool n) (stop : ℕ) where
   pub root-inside : Inside pool n stop root
@@ -31,7 +31,8 @@ module _ {pool : List ℕ} {n : ℕ} (z : Sized pool n) (stop : ℕ) where
         passed = λ e. absurd (e refl);
       }
 
-  pub below-inside : {s : Spot} {j b c : ℕ} → Inside pool n stop s → Accepted pool n (s .depth) (wordAt pool (s .at)) j b → b < stop → c < 16 → Inside pool n stop (below n j b c s)
+  pub below-inside : {s : Spot} {j b c : ℕ} → Inside pool n stop s → Accepted pool n (s .depth) (wordAt pool (s .at)) j b → b < stop → c < 16
+      → Inside pool n stop (below n j b c s)
   below-inside {s} {j} {b} {c} i a l h =
       record {
         at≥ = omega arith;
@@ -55,23 +56,24 @@ module _ {pool : List ℕ} {n : ℕ} (z : Sized pool n) (stop : ℕ) where
   walks-inside (stops j b a l q) i = rw q (record { inside = i; accepted = a; stop≤ = l })
   walks-inside {key} (goes j b a l w) i = walks-inside w (below-inside i a l (digit-lt 16 key b))
 
-  pub walk-inside : (key : ℕ) {e : End} → e ≡ walkTo pool n key stop → Ends pool n stop e
-  walk-inside key q = rw q (walks-inside (walk-comes pool n key stop 17 root (omega arith) (omega arith)) root-inside)
+-- where a walk ends lies inside the pool
+pub walk-inside : {pool : List ℕ} {n : ℕ} → Sized pool n → (key stop : ℕ) {e : End} → e ≡ walkTo pool n key stop → Ends pool n stop e
+walk-inside {pool} {n} z key stop q = rw q (walks-inside z stop (walk-has-end pool n key stop 17 root (omega arith) (omega arith)) (root-inside z stop))
 
-  few-nodes : (e : End) → Ends pool n stop e → nodesOf e ≤ 16
-  few-nodes (AtLeaf s i) h = omega arith
-  few-nodes (AtEmpty s) h = omega arith
-  few-nodes (Stopped s j b) h = omega arith
-  few-nodes (Damaged m) h = h
+few-nodes : (pool : List ℕ) (n stop : ℕ) (e : End) → Ends pool n stop e → nodesOf e ≤ 16
+few-nodes pool n stop (AtLeaf s i) h = omega arith
+few-nodes pool n stop (AtEmpty s) h = omega arith
+few-nodes pool n stop (Stopped s j b) h = omega arith
+few-nodes pool n stop (Damaged m) h = h
 
-  -- "how many nodes had an accepted header on its walk, at most 16"
-  pub walk-nodes : (key : ℕ) {e : End} → e ≡ walkTo pool n key stop → nodesOf e ≤ 16
-  walk-nodes key {e} q = few-nodes e (walk-inside key q)
+-- "how many nodes had an accepted header on its walk, at most 16"
+pub walk-nodes : {pool : List ℕ} {n : ℕ} → Sized pool n → (key stop : ℕ) {e : End} → e ≡ walkTo pool n key stop → nodesOf e ≤ 16
+walk-nodes {pool} {n} z key stop {e} q = few-nodes pool n stop e (walk-inside z key stop q)
 
 -- the plain walk does not stop
 pub walk-unstopped : {pool : List ℕ} {n : ℕ} → Sized pool n → (key : ℕ) {s : Spot} {j b : ℕ} → Stopped s j b ≡ walkOf pool n key → ⊥
 walk-unstopped z key q =
-    let h = walk-inside z 16 key q in
+    let h = walk-inside z key 16 q in
     omega arith
 
 -- a walk that ends and is not stopped
@@ -91,5 +93,5 @@ module _ {pool : List ℕ} {n key stop : ℕ} where
 -- and it ends where the plain walk does
 pub walk-whole : (pool : List ℕ) (n key stop : ℕ) {e : End} → e ≡ walkTo pool n key stop → Unstopped e → e ≡ walkOf pool n key
 walk-whole pool n key stop {e} q u =
-    let w : Walks pool n key stop root e = rw q (walk-comes pool n key stop 17 root (omega arith) (omega arith)) in
-    walk-end pool n key 16 (no-stop w u) 17 (omega arith) (omega arith)
+    let w : Walks pool n key stop root e = rw q (walk-has-end pool n key stop 17 root (omega arith) (omega arith)) in
+    walk-one-end pool n key 16 (no-stop w u) 17 (omega arith) (omega arith)

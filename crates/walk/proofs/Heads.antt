@@ -4,7 +4,7 @@ use mathlib.Core.Path.{_≡_, refl, sym, _∙_}
 use mathlib.Core.Bool.{Bool, true, false}
 use mathlib.Core.List.{List, [], _∷_}
 use mathlib.Core.Logic.{⊎-elim}
-use Prim.Native.Nat.{ℕ, _+_, _≤_, _<_}
+use Prim.Native.Nat.{ℕ, _+_, _<_}
 use native.Mathlib.Omega.{arith}
 use borrow.Author.Tests.{ltb-false}
 use types.Run.{OneOf}
@@ -30,6 +30,7 @@ between w word = go (ltb (depthOf word) w) refl (ltb 15 (lengthOf word)) (ltb 15
   where
     b : ℕ
     b = depthOf word + lengthOf word
+
     go : (t : Bool) → ltb (depthOf word) w ≡ t → (u v : Bool) → ltb 15 b ≡ v → Between w (pick t Wrong (pick u Wrong (pick v Wrong (Branch b))))
     go true e u v f = tt
     go false e true v f = tt
@@ -60,6 +61,7 @@ met pool n w r = at-ref (refOf n r) refl (within n r)
     at-head : (j : ℕ) → refOf n r ≡ Node j → j + 1 < n → (h : Head) → headOf w (headerAt pool n j) ≡ h → Between w h → Met pool n w r
     at-head j e l (Branch b) f g = node j b (record { refers = e; j< = l; head = f; w≤b = g .0; b< = g .1 })
     at-head j e l Wrong f g = wrong j (record { refers = e; head = f })
+
     at-ref : (x : Ref) → refOf n r ≡ x → Within n x → Met pool n w r
     at-ref Empty e l = no-node Empty e tt tt
     at-ref (Leaf i) e l = no-node (Leaf i) e l tt

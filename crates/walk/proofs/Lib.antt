@@ -4,3 +4,4 @@ pub mod Walks
 pub mod Ends
 pub mod Nodes
 pub mod LowestLeaf
+pub mod Examples

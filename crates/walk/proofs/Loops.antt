@@ -1,6 +1,6 @@
 -- Laws of loops over places: a scan stops at the first place that passes its test, and no more places pass a test than there are.
 -- Assumes nothing.
-use mathlib.Core.Path.{_≡_, refl, sym, ap, _∙_}
+use mathlib.Core.Path.{_≡_, refl}
 use mathlib.Core.Bool.{Bool, true, false}
 use Prim.Native.Nat.{ℕ, zero, suc, _+_, _-_, _≤_, _<_}
 use native.Mathlib.Numerals.{add-one}
@@ -33,7 +33,8 @@ module _ (test : ℕ → Bool) where
   scan-true zero i h = absurd (omega arith)
   scan-true (suc n) i h = go (scan-true n (i + 1)) (test i) refl h
     where
-      go : (scan n (i + 1) test < i + 1 + n → test (scan n (i + 1) test) ≡ true) → (t : Bool) → test i ≡ t → scan (suc n) i test < i + suc n → test (scan (suc n) i test) ≡ true
+      go : (scan n (i + 1) test < i + 1 + n → test (scan n (i + 1) test) ≡ true) → (t : Bool) → test i ≡ t
+          → scan (suc n) i test < i + suc n → test (scan (suc n) i test) ≡ true
       go ih true e h = rw (e, scan) e
       go ih false e h = rw (scan-suc n i e) (ih (omega (arith, scan-suc n i e)))
 

@@ -1,34 +1,30 @@
--- The walk without its bound on nodes: a relation by one turn at a time. Every walk comes to one end, whatever the bound; that end lies inside the pool.
+-- The walk, one turn at a time: every walk comes to one end, and the definition's bound on the nodes is not seen.
 -- Assumes nothing.
-use mathlib.Core.Path.{_≡_, refl, sym, ap, _∙_}
-use mathlib.Core.Bool.{Bool, true, false}
+use mathlib.Core.Path.{_≡_, sym, _∙_}
 use mathlib.Core.List.{List}
-use Prim.Native.Nat.{ℕ, zero, suc, _+_, _-_, _*_, _≤_, _<_}
+use Prim.Native.Nat.{ℕ, zero, suc, _+_, _≤_, _<_}
 use native.Mathlib.Decide.{decLt}
 use native.Mathlib.Omega.{arith}
-use borrow.Author.Tests.{leb-true, leb-false, le-leb, lt-leb}
-use lib.Dec.{leb}
+use borrow.Author.Tests.{le-leb, lt-leb}
 use Rattle.digits.specs.Digits.{digitOf}
-use Rattle.digits.proofs.Digits.{digit-lt}
-use Rattle.pool.specs.Sizes.{Sized}
-use Rattle.pool.specs.Places.{wordAt, headerAt, childWord}
+use Rattle.pool.specs.Places.{wordAt}
 use Rattle.pool.specs.Refs.{refOf, Within}
 use Rattle.pool.specs.declared.Ref.{Ref}
 use Rattle.pool.specs.declared.Ref.the-variants.{Empty, Leaf, Node, Bad}
-use Rattle.walk.specs.declared.Head.the-variants.{Branch, Wrong}
 use Rattle.walk.specs.declared.Spot.{Spot}
 use Rattle.walk.specs.declared.End.{End}
-use Rattle.walk.specs.declared.End.the-variants.{AtLeaf, AtEmpty, Stopped, Damaged}
-use Rattle.walk.specs.Walks.{headOf, root, below, endOf, walkFrom, walkTo, walkOf}
-use Rattle.walk.specs.Ends.{Accepted, Passed, Inside, Stands, Stops, Ends, nodesOf}
-use Rattle.walk.proofs.Heads.{NoNode, Refused, Met, no-node, wrong, node, met}
+use Rattle.walk.specs.declared.End.the-variants.{Stopped, Damaged}
+use Rattle.walk.specs.Walks.{below, endOf, walkFrom}
+use Rattle.walk.specs.Ends.{Accepted}
+use Rattle.walk.proofs.Heads.{NoNode, Refused, no-node, wrong, node, met}
 
--- from s the walk comes to e
+-- from s the walk comes to e, said without a bound
 pub data Walks (pool : List ℕ) (n key stop : ℕ) : Spot → End → Type 0 where
   ends : {s : Spot} {e : End} (r : Ref) → refOf n (wordAt pool (s .at)) ≡ r → Within n r → NoNode r → e ≡ endOf s r → Walks pool n key stop s e
   damaged : {s : Spot} {e : End} (j : ℕ) → Refused pool n (s .depth) (wordAt pool (s .at)) j → e ≡ Damaged (s .nodes) → Walks pool n key stop s e
   stops : {s : Spot} {e : End} (j b : ℕ) → Accepted pool n (s .depth) (wordAt pool (s .at)) j b → stop ≤ b → e ≡ Stopped s j b → Walks pool n key stop s e
-  goes : {s : Spot} {e : End} (j b : ℕ) → Accepted pool n (s .depth) (wordAt pool (s .at)) j b → b < stop → Walks pool n key stop (below n j b (digitOf key b) s) e → Walks pool n key stop s e
+  goes : {s : Spot} {e : End} (j b : ℕ) → Accepted pool n (s .depth) (wordAt pool (s .at)) j b → b < stop → Walks pool n key stop (below n j b (digitOf key b) s) e
+      → Walks pool n key stop s e
 
 module _ (pool : List ℕ) (n key stop : ℕ) where
   -- one turn of the definition
@@ -53,27 +49,32 @@ module _ (pool : List ℕ) (n key stop : ℕ) where
   walk-goes f s j b a l = rw (a .refers, a .head, lt-leb stop b l, walkFrom)
 
   -- every walk comes to an end: with a bound that leaves one node for each digit that is left, the definition says which
-  pub walk-comes : (f : ℕ) (s : Spot) → s .depth ≤ 16 → 17 ≤ f + s .depth → Walks pool n key stop s (walkFrom f pool n key stop s)
-  walk-comes zero s d h = absurd (omega arith)
-  walk-comes (suc f) s d h =
+  pub walk-has-end : (f : ℕ) (s : Spot) → s .depth ≤ 16 → 17 ≤ f + s .depth → Walks pool n key stop s (walkFrom f pool n key stop s)
+  walk-has-end zero s d h = absurd (omega arith)
+  walk-has-end (suc f) s d h =
       elim (met pool n (s .depth) (wordAt pool (s .at))) [
         | no-node r e i g ↦ ends r e i g (walk-ends f s r e g)
         | wrong j a ↦ damaged j a (walk-damaged f s j a)
         | node j b a ↦
             elim (decLt b stop) [
-              | yes l ↦ rw (walk-goes f s j b a l) (goes j b a l (walk-comes f (below n j b (digitOf key b) s) (omega (arith, a .b<)) (omega (arith, a .w≤b))))
+              | yes l ↦ rw (walk-goes f s j b a l) (goes j b a l (walk-has-end f (below n j b (digitOf key b) s) (omega (arith, a .b<)) (omega (arith, a .w≤b))))
               | no g ↦ stops j b a (omega arith) (walk-stops f s j b a (omega arith))
             ]
       ]
 
   -- and to no other
-  pub walk-end : {s : Spot} {e : End} → Walks pool n key stop s e → (f : ℕ) → s .depth ≤ 16 → 17 ≤ f + s .depth → e ≡ walkFrom f pool n key stop s
-  walk-end w zero d h = absurd (omega arith)
-  walk-end {s} (ends r e i h q) (suc f) d g = q ∙ sym (walk-ends f s r e h)
-  walk-end {s} (damaged j a q) (suc f) d g = q ∙ sym (walk-damaged f s j a)
-  walk-end {s} (stops j b a l q) (suc f) d g = q ∙ sym (walk-stops f s j b a l)
-  walk-end {s} (goes j b a l w) (suc f) d g = walk-end w f (omega (arith, a .b<)) (omega (arith, a .w≤b)) ∙ sym (walk-goes f s j b a l)
+  pub walk-one-end : {s : Spot} {e : End} → Walks pool n key stop s e → (f : ℕ) → s .depth ≤ 16 → 17 ≤ f + s .depth → e ≡ walkFrom f pool n key stop s
+  walk-one-end w zero d h = absurd (omega arith)
+  walk-one-end {s} (ends r e i h q) (suc f) d g = q ∙ sym (walk-ends f s r e h)
+  walk-one-end {s} (damaged j a q) (suc f) d g = q ∙ sym (walk-damaged f s j a)
+  walk-one-end {s} (stops j b a l q) (suc f) d g = q ∙ sym (walk-stops f s j b a l)
+  walk-one-end {s} (goes j b a l w) (suc f) d g = walk-one-end w f (omega (arith, a .b<)) (omega (arith, a .w≤b)) ∙ sym (walk-goes f s j b a l)
 
   -- so the bound is not seen
-  pub walk-fuel : (f g : ℕ) (s : Spot) → s .depth ≤ 16 → 17 ≤ f + s .depth → 17 ≤ g + s .depth → walkFrom f pool n key stop s ≡ walkFrom g pool n key stop s
-  walk-fuel f g s d h l = walk-end (walk-comes f s d h) g d l
+  pub walk-bound-unseen : (f g : ℕ) (s : Spot) → s .depth ≤ 16 → 17 ≤ f + s .depth → 17 ≤ g + s .depth → walkFrom f pool n key stop s ≡ walkFrom g pool n key stop s
+  walk-bound-unseen f g s d h l = walk-one-end (walk-has-end f s d h) g d l
+
+  -- past a node that does not stop it the walk is the same
+  pub walk-on : (s : Spot) (j b : ℕ) → Accepted pool n (s .depth) (wordAt pool (s .at)) j b → b < stop
+      → walkFrom 17 pool n key stop (below n j b (digitOf key b) s) ≡ walkFrom 17 pool n key stop s
+  walk-on s j b a l = walk-bound-unseen 17 16 (below n j b (digitOf key b) s) (omega arith) (omega arith) (omega arith) ∙ sym (walk-goes 16 s j b a l)

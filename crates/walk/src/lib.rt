@@ -1,7 +1,6 @@
 // Ways down the tree: the walk along a key, the lowest leaf below a reference, a node's children.
 ghost use mathlib.Core.Path.{_≡_};
-ghost use Prim.Native.Nat.{ℕ, _+_, _<_, _≤_};
-ghost use lib.ListN.{length};
+ghost use Prim.Native.Nat.{_+_, _<_, _≤_};
 ghost use Rattle.pool.specs.Sizes.{Sized};
 ghost use Rattle.pool.specs.Refs.{Within};
 ghost use Rattle.walk.specs.Walks.{headOf, Between, root, below, endOf, walkTo, walkOf, childrenOf, lowestChild, otherChild, lowestEnd, lowestOf};
@@ -147,14 +146,14 @@ pub fn lowest_child(pool: &[u64], n: usize, j: usize) -> usize
     requires { ⌜ Sized (now pool) n × (j + 1 < n) ⌝ }
     ensures { λ r. ⌜ r ≡ lowestChild (now (pool .entry)) n j ⌝ }
 {
-    let mut c: usize = 0;
-    while c < Header::CHILDREN {
-        if pool::child(pool, n, j, c) != 0 {
-            return c;
+    let mut lowest: usize = 0;
+    while lowest < Header::CHILDREN {
+        if pool::child(pool, n, j, lowest) != 0 {
+            return lowest;
         }
-        c += 1;
+        lowest += 1;
     }
-    c
+    lowest
 }
 
 // The lowest child of node j but the one at the word `at`, 16 for none.
@@ -162,16 +161,16 @@ pub fn other_child(pool: &[u64], n: usize, j: usize, at: usize) -> usize
     requires { ⌜ Sized (now pool) n × (j + 1 < n) ⌝ }
     ensures { λ r. ⌜ r ≡ otherChild (now (pool .entry)) n j at ⌝ }
 {
-    let mut c: usize = 0;
-    while c < Header::CHILDREN {
-        if pool::node_word(n, j) + 1 + c != at {
-            if pool::child(pool, n, j, c) != 0 {
-                return c;
+    let mut other: usize = 0;
+    while other < Header::CHILDREN {
+        if pool::node_word(n, j) + 1 + other != at {
+            if pool::child(pool, n, j, other) != 0 {
+                return other;
             }
         }
-        c += 1;
+        other += 1;
     }
-    c
+    other
 }
 
 // The key of a lowest leaf, or damage on the way to it.

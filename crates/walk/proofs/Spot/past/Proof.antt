@@ -1,31 +1,23 @@
+-- `past` goes below the node. Assumes nothing.
 use borrow.Author.Needs.{needs}
 use Rattle.walk.proofs.Spot.past.Statement.{statement}
 use Rattle.walk.proofs.Spot.past.Tie as tie
-use Rattle.walk.proofs.Spot.past.Reads as reads
-use Rattle.walk.proofs.Spot.past.Lts as lts
-use Rattle.pool.proofs.node_word.Reads as node-word-reads
 
--- src/lib.rt:69:17
 node-word-requires : tie.Need-node-word-requires
 node-word-requires c κs = search needs
 
--- src/lib.rt:69:17
 add-t7 : tie.Need-add-t7
 add-t7 c = search needs
 
--- src/lib.rt:69:17
 add-t8 : tie.Need-add-t8
 add-t8 c = search needs
 
--- src/lib.rt:70:20
 add-t9 : tie.Need-add-t9
 add-t9 c = search needs
 
--- src/lib.rt:71:20
 add-t10 : tie.Need-add-t10
 add-t10 c = search needs
 
--- src/lib.rt:64:5
 returns : tie.Need-returns
 returns c = rw (← c .before .node-word .ensures)
 
