@@ -93,14 +93,16 @@ wholeOf pool n from ks vs = visitFrom 17 pool n from 0 (wordAt pool 1) (visit ks
 -- and else the entries handed out, of which there are no more than the buffers hold; "Entries beyond the count keep their contents."
 pub data Lists (pool : List ℕ) (from : ℕ) (ks vs : List ℕ) : Shown → Type 0 where
   size : capacityOf pool ≡ Wrong → Lists pool from ks vs (shown ks vs (listed 1 0 false))
-  buffers : {n : ℕ} → capacityOf pool ≡ Holds n → (length ks ≡ 0) ⊎ (length ks ≡ length vs → ⊥) → Lists pool from ks vs (shown ks vs (listed 6 0 false))
+  buffers : {n : ℕ} → capacityOf pool ≡ Holds n → (length ks ≡ 0) ⊎ (length ks ≡ length vs → ⊥)
+      → Lists pool from ks vs (shown ks vs (listed 6 0 false))
   damage : {n : ℕ} → capacityOf pool ≡ Holds n → wholeOf pool n from ks vs .state .phase ≡ 2
       → Lists pool from ks vs (shown (replicate (length ks) 0) (replicate (length vs) 0) (listed 2 0 false))
   done : {n : ℕ} (v : Visit) → capacityOf pool ≡ Holds n → v ≡ wholeOf pool n from ks vs → (v .state .phase ≡ 2 → ⊥) → Bounded n ks vs v
       → Lists pool from ks vs (shown (v .keys) (v .values) (listed 0 (v .state .count) (eqb (v .state .phase) 1)))
 
 module _ (pool : List ℕ) (from : ℕ) (ks vs : List ℕ) where
-  judged-lists : {n : ℕ} (v : Visit) → capacityOf pool ≡ Holds n → v ≡ wholeOf pool n from ks vs → Bounded n ks vs v → Lists pool from ks vs (judged v)
+  judged-lists : {n : ℕ} (v : Visit) → capacityOf pool ≡ Holds n → v ≡ wholeOf pool n from ks vs → Bounded n ks vs v
+      → Lists pool from ks vs (judged v)
   unfolding judged
   judged-lists v c e b =
       pick-case (Lists pool from ks vs) (eqb (v .state .phase) 2)

@@ -49,7 +49,8 @@ module _ (n : ℕ) (ks vs : List ℕ) where
 
   module _ (v : Visit) (b : Bounded n ks vs v) (few : v .state .met < n) where
     -- a leaf that is counted and not handed out
-    bounded-met : (p : ℕ) → (p ≡ 1 → v .state .count ≡ length ks) → Bounded n ks vs (visit (v .keys) (v .values) (state (v .state .count) (v .state .met + 1) p))
+    bounded-met : (p : ℕ) → (p ≡ 1 → v .state .count ≡ length ks)
+        → Bounded n ks vs (visit (v .keys) (v .values) (state (v .state .count) (v .state .met + 1) p))
     bounded-met p h =
         record {
           met≤ = omega arith;

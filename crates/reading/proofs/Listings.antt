@@ -29,12 +29,14 @@ module _ (pool : List ℕ) (from : ℕ) (ks vs : List ℕ) {r : Size} (e : r ≡
       unfolding listOf
       list-unequal g = rw (← e, q, ne-eqb (length ks) 0 h, ne-eqb (length ks) (length vs) g)
 
-      pub list-judged : length ks ≡ length vs → {v : Visit} → v ≡ visitFrom 17 pool n from 0 (wordAt pool 1) (visit ks vs (state 0 0 0)) → judged v ≡ listOf pool from ks vs
+      pub list-judged : length ks ≡ length vs → {v : Visit} → v ≡ visitFrom 17 pool n from 0 (wordAt pool 1) (visit ks vs (state 0 0 0))
+          → judged v ≡ listOf pool from ks vs
       unfolding listOf
       list-judged g f = rw (← e, q, ne-eqb (length ks) 0 h, eq-eqb (length ks) (length vs) g, f)
 
 module _ (v : Visit) where
-  pub judged-damage : {ks vs : List ℕ} → v .state .phase ≡ 2 → ks ≡ replicate (length (v .keys)) 0 → vs ≡ replicate (length (v .values)) 0 → shown ks vs (listed 2 0 false) ≡ judged v
+  pub judged-damage : {ks vs : List ℕ} → v .state .phase ≡ 2 → ks ≡ replicate (length (v .keys)) 0 → vs ≡ replicate (length (v .values)) 0
+      → shown ks vs (listed 2 0 false) ≡ judged v
   unfolding judged
   judged-damage h a b = rw (eq-eqb (v .state .phase) 2 h, a, b)
 

@@ -54,7 +54,8 @@ module _ (pool : List ℕ) (n from : ℕ) where
   nodeFrom zero w j = spoilt
   nodeFrom (suc f) w j = nodeOf (visitFrom f pool n from) pool n w j
 
-  visit-turn : (f w r : ℕ) (v : Visit) → visitFrom f pool n from w r v ≡ pick (eqb (v .state .phase) 0) (refVisit (nodeFrom f w) pool n from (refOf n r) v) v
+  visit-turn : (f w r : ℕ) (v : Visit)
+      → visitFrom f pool n from w r v ≡ pick (eqb (v .state .phase) 0) (refVisit (nodeFrom f w) pool n from (refOf n r) v) v
   unfolding visitFrom
   visit-turn zero w r v = refl
   visit-turn (suc f) w r v = refl
@@ -64,14 +65,17 @@ module _ (pool : List ℕ) (n from : ℕ) where
   visit-over f w r {v} h = visit-turn f w r v ∙ rw (ne-eqb (v .state .phase) 0 h)
 
   -- one that goes on does what the reference says
-  pub visit-on : (f w r : ℕ) (v : Visit) {x y : Ref} → v .state .phase ≡ 0 → x ≡ refOf n r → x ≡ y → visitFrom f pool n from w r v ≡ refVisit (nodeFrom f w) pool n from y v
+  pub visit-on : (f w r : ℕ) (v : Visit) {x y : Ref} → v .state .phase ≡ 0 → x ≡ refOf n r → x ≡ y
+      → visitFrom f pool n from w r v ≡ refVisit (nodeFrom f w) pool n from y v
   visit-on f w r v h e q = visit-turn f w r v ∙ rw (eq-eqb (v .state .phase) 0 h, ← e, q)
 
-  pub visit-bad : (f w r : ℕ) (v : Visit) {x : Ref} → v .state .phase ≡ 0 → 1024 < r → x ≡ refOf n r → NoNode x → visitFrom f pool n from w r v ≡ spoilt v
+  pub visit-bad : (f w r : ℕ) (v : Visit) {x : Ref} → v .state .phase ≡ 0 → 1024 < r → x ≡ refOf n r → NoNode x
+      → visitFrom f pool n from w r v ≡ spoilt v
   visit-bad f w r v h l e g = visit-on f w r v h refl (high-bad n r l (rw e at g))
 
   -- visits that treat a node alike are alike
-  nodes-same : (f g w u r : ℕ) (v : Visit) → ((j : ℕ) → refOf n r ≡ Node j → nodeFrom f w j v ≡ nodeFrom g u j v) → visitFrom f pool n from w r v ≡ visitFrom g pool n from u r v
+  nodes-same : (f g w u r : ℕ) (v : Visit) → ((j : ℕ) → refOf n r ≡ Node j → nodeFrom f w j v ≡ nodeFrom g u j v)
+      → visitFrom f pool n from w r v ≡ visitFrom g pool n from u r v
   nodes-same f g w u r v h =
       visit-turn f w r v ∙ ap (λ (z : Visit). pick (eqb (v .state .phase) 0) z v) (go (refOf n r) refl) ∙ sym (visit-turn g u r v)
     where
@@ -95,7 +99,8 @@ module _ (pool : List ℕ) (n from : ℕ) where
 
   -- ---- the bound on nodes is not seen
   -- children are met deeper than their node
-  node-same : (go go′ : ℕ → ℕ → Visit → Visit) (w j : ℕ) (v : Visit) → ((d r : ℕ) (u : Visit) → w < d → go d r u ≡ go′ d r u) → nodeOf go pool n w j v ≡ nodeOf go′ pool n w j v
+  node-same : (go go′ : ℕ → ℕ → Visit → Visit) (w j : ℕ) (v : Visit) → ((d r : ℕ) (u : Visit) → w < d → go d r u ≡ go′ d r u)
+      → nodeOf go pool n w j v ≡ nodeOf go′ pool n w j v
   node-same go go′ w j v e = at-head (headOf w (headerAt pool n j)) (between w (headerAt pool n j))
     where
       at-head : (h : Head) → Between w h → kidsOf go pool n j h v ≡ kidsOf go′ pool n j h v
@@ -112,18 +117,18 @@ module _ (pool : List ℕ) (n from : ℕ) where
       at-head Wrong l = refl
 
   -- a bound that leaves one node for each digit that is left is not seen
-  pub visit-fuel : (f g w r : ℕ) (v : Visit) → 16 ≤ f + w → 16 ≤ g + w → visitFrom f pool n from w r v ≡ visitFrom g pool n from w r v
-  visit-fuel zero g w r v a b = nodes-same 0 g w w r v (λ j e. node-end g w j v (omega arith))
-  visit-fuel (suc f) zero w r v a b = nodes-same (suc f) 0 w w r v (λ j e. sym (node-end (suc f) w j v (omega arith)))
-  visit-fuel (suc f) (suc g) w r v a b =
-      nodes-same (suc f) (suc g) w w r v (λ j e. node-same (visitFrom f pool n from) (visitFrom g pool n from) w j v (λ d x u l. visit-fuel f g d x u (omega arith) (omega arith)))
+  pub visit-bound-unseen : (f g w r : ℕ) (v : Visit) → 16 ≤ f + w → 16 ≤ g + w → visitFrom f pool n from w r v ≡ visitFrom g pool n from w r v
+  visit-bound-unseen zero g w r v a b = nodes-same 0 g w w r v (λ j e. node-end g w j v (omega arith))
+  visit-bound-unseen (suc f) zero w r v a b = nodes-same (suc f) 0 w w r v (λ j e. sym (node-end (suc f) w j v (omega arith)))
+  visit-bound-unseen (suc f) (suc g) w r v a b =
+      nodes-same (suc f) (suc g) w w r v (λ j e. node-same (visitFrom f pool n from) (visitFrom g pool n from) w j v (λ d x u l. visit-bound-unseen f g d x u (omega arith) (omega arith)))
 
   -- so a node's children are visited under the bound of the node
   pub visit-node : (f w r : ℕ) (v : Visit) {x : Ref} {j : ℕ} → 16 ≤ f → v .state .phase ≡ 0 → x ≡ refOf n r → x ≡ Node j
       → visitFrom f pool n from w r v ≡ nodeOf (visitFrom f pool n from) pool n w j v
   visit-node zero w r v l h e q = absurd (omega arith)
   visit-node (suc f) w r v {x} {j} l h e q =
-      visit-on (suc f) w r v h e q ∙ node-same (visitFrom f pool n from) (visitFrom (suc f) pool n from) w j v (λ d y u g. visit-fuel f (suc f) d y u (omega arith) (omega arith))
+      visit-on (suc f) w r v h e q ∙ node-same (visitFrom f pool n from) (visitFrom (suc f) pool n from) w j v (λ d y u g. visit-bound-unseen f (suc f) d y u (omega arith) (omega arith))
 
   -- the visit of child m of node j, which branches at b
   abbrev pub kid : ℕ → ℕ → ℕ → Visit → Visit
@@ -182,7 +187,8 @@ module _ (pool : List ℕ) (n from : ℕ) where
 
   -- ---- what damage and every leaf keep, a visit keeps
   module _ (P : Visit → Type 0) (damage : (v : Visit) → P v → P (spoilt v)) (leaf : (key value : ℕ) (v : Visit) → P v → P (leafOf n from key value v)) where
-    kids-keep : (go : ℕ → ℕ → Visit → Visit) → ((d r : ℕ) (v : Visit) → P v → P (go d r v)) → (j : ℕ) (h : Head) (v : Visit) → P v → P (kidsOf go pool n j h v)
+    kids-keep : (go : ℕ → ℕ → Visit → Visit) → ((d r : ℕ) (v : Visit) → P v → P (go d r v)) → (j : ℕ) (h : Head) (v : Visit) → P v
+        → P (kidsOf go pool n j h v)
     kids-keep go k j (Branch b) v p =
         pick-case P (eqb (childrenOf pool n j) 0) (λ e. damage v p) (λ e. upto-keeps P (λ c. go (b + 1) (childAt pool n j c)) (λ c u. k (b + 1) (childAt pool n j c) u) 16 v p)
     kids-keep go k j Wrong v p = damage v p

@@ -179,16 +179,16 @@ fn visit_node(
 // The lowest child of node j from the place `at` on, 16 for none.
 fn next_child(pool: &[u64], n: usize, j: usize, at: usize) -> usize
     requires { ⌜ Sized (now pool) n × (j + 1 < n) ⌝ }
-    ensures { λ c. ⌜ c ≡ scan (16 - at) at (isChild (now (pool .entry)) n j) ⌝ }
+    ensures { λ r. ⌜ r ≡ scan (16 - at) at (isChild (now (pool .entry)) n j) ⌝ }
 {
-    let mut c = at;
-    while c < Header::CHILDREN {
-        if pool::child(pool, n, j, c) != 0 {
-            return c;
+    let mut next = at;
+    while next < Header::CHILDREN {
+        if pool::child(pool, n, j, next) != 0 {
+            return next;
         }
-        c += 1;
+        next += 1;
     }
-    c
+    next
 }
 
 // Every entry of a buffer becomes 0.
