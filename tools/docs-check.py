@@ -16,6 +16,9 @@ Each `text in backticks` has to be one of these:
 A count is a row of a table whose column is headed "lines", "files" or "edits", with a path in the row's first cell (a row "all"
 is the sum of the rows above it), or a text "`path`: N lines", "N files" or "N edits".
 
+In docs/AUDIT.md, the table of files below "What a reader must believe" has to list just the files that the statements of
+crates/demands and crates/wort reach through their `use` lines, and the table below "What a reader need not believe" the others.
+
 The counting rule. A line counts unless it is blank, only a comment (-- or // or #), or a `use`, `ghost use` or `mod` line; files are
 .antt, .rt, .rs, .c, .h, .py and .sh below the path, Lib.antt left out; edits are the .edit files below the path.
 """
@@ -32,11 +35,13 @@ COMMANDS = {"rt", "gcc", "cargo", "python3", "make"}
 OTHERS = set(
     "let else match requires ensures use ghost pub mod struct enum array u64 u8 usize leading_zeros specs src proofs declared"
     " unicodedata NFC BTreeMap LMDB JudyL NOSYNC WRITEMAP libwort passed failed logic proved number stdin stdout SEED COUNT MOST"
-    " WORT_LIB_DIR WORT_LIB_NAME FILE DIR release bin long exhaust staticlib".split()
+    " WORT_LIB_DIR WORT_LIB_NAME FILE DIR release bin long exhaust staticlib"
+    " length take drop getD set replicate".split()  # the toolchain's lists
 )
 NAME = re.compile(r"[^\W\d][\w′₀-₉'≤≥<>≡-]*", re.U)
 DEFINED = re.compile(r"^\s*(?:\|\s*)?(?:(?:unfoldable|abbrev|pub|record|data|module|mod)\s+)*([^\W\d][^\s:(){}.;,]*)\s*(?:\{[^}]*\}\s*)*(?:[:({]|where)", re.U)
 DECLARED = re.compile(r"\b(?:fn|struct|enum|const|type|mod)\s+(\w+)|^\s*(?:pub\s+)?(\w+)(?::|\(|,|\s*\{)", re.M)
+USED = re.compile(r"^use Rattle·(\w+?)(?:·specs)?\.specs\.(\w+)", re.M)
 COUNT = re.compile(r"`([^`\s]+)`: ([\d,]+) (lines|files|edits)")
 
 
@@ -74,9 +79,23 @@ def known_names():
     return names
 
 
+def definitions():
+    """The files of definitions that the statements reach, and the others."""
+    crates = ROOT / "crates"
+    everything = {f for f in crates.glob("*/specs/*.antt") if f.name != "Lib.antt"}
+    reached, ahead = set(), [f for f in everything if f.parent.parent.name in ("demands", "wort")]
+    while ahead:
+        file = ahead.pop()
+        if file not in reached:
+            reached.add(file)
+            ahead += [crates / c / "specs" / f"{m}.antt" for c, m in USED.findall(file.read_text()) if m != "declared"]
+    return reached, everything - reached
+
+
 class Check:
     def __init__(self, write):
         self.write, self.faults, self.seen = write, [], 0
+        self.rows = {}  # the paths that stand in tables of counts, by heading
         self.names = known_names()
         self.files = {f.name for f in ROOT.rglob("*") if ".git" not in f.parts and "target" not in f.relative_to(ROOT).parts}
         self.targets = set(re.findall(r"^(\w+):", (ROOT / "Makefile").read_text(), re.M))
@@ -139,7 +158,7 @@ class Check:
             self.fault(place, text.format(f"{true:,}") + f", not {given}")
         return f"{true:,}"
 
-    def row(self, document, place, cells, heads, sums):
+    def row(self, document, place, heading, cells, heads, sums):
         """A row of a table with counts: the same row, with the counted numbers."""
         path = re.search(r"`([^`]+)`|\]\(([^)]+)\)", cells[0])
         for i, what in enumerate(heads):
@@ -148,6 +167,7 @@ class Check:
                 continue
             if path:
                 true = self.number(document, place, path.group(1) or path.group(2), what, number)
+                self.rows.setdefault((document.name, heading), set()).add(self.resolved(document, path.group(1) or path.group(2)))
                 sums[i] = sums.get(i, 0) + int(true.replace(",", ""))
             elif cells[0].strip() == "all":
                 true = self.same(place, f"all {what} are {{}}", number, sums.get(i, 0))
@@ -160,19 +180,21 @@ class Check:
         if not document.exists():
             self.fault(document.relative_to(ROOT), "is not there")
             return
-        heads, sums, fenced, lines = [], {}, False, []
+        heading, heads, sums, fenced, lines = "", [], {}, False, []
         for n, line in enumerate(document.read_text().splitlines(), start=1):
             place = f"{document.relative_to(ROOT)}:{n}"
             fenced ^= line.startswith("```")
             if fenced or line.startswith(("```", "    ")):
                 lines.append(line)
                 continue
+            if line.startswith("#"):
+                heading = line.lstrip("# ")
             if line.startswith("|"):
                 cells = line.strip().strip("|").split("|")
                 if not heads:
                     heads, sums = [c.strip() for c in cells], {}
                 elif {"lines", "files", "edits"} & set(heads):
-                    line = self.row(document, place, cells, heads, sums)
+                    line = self.row(document, place, heading, cells, heads, sums)
             else:
                 heads = []
             line = COUNT.sub(lambda m: f"`{m[1]}`: {self.number(document, place, m[1], m[3], m[2])} {m[3]}", line)
@@ -183,6 +205,13 @@ class Check:
             lines.append(line)
         if self.write:
             document.write_text("\n".join(lines) + "\n")
+
+    def believed(self):
+        for heading, true in zip(("What a reader must believe", "What a reader need not believe"), definitions()):
+            given = self.rows.get(("AUDIT.md", heading), set()) - {None}
+            for file in sorted(given ^ true):
+                wrong = "stands and does not belong" if file in given else "is missing"
+                self.fault("docs/AUDIT.md", f"{file.relative_to(ROOT)} {wrong} below {heading!r}")
 
     def program(self):
         blocks = re.findall(r"^```c\n(.*?)^```$", (ROOT / "README.md").read_text(), re.M | re.S)
@@ -202,6 +231,7 @@ def main():
     check = Check(write=bool(sys.argv[1:]))
     for document in DOCUMENTS:
         check.document(document)
+    check.believed()
     check.program()
     if check.faults:
         sys.exit("\n".join(check.faults) + f"\n{len(check.faults)} faults in the documents.")
