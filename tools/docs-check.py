@@ -13,8 +13,9 @@ Each `text in backticks` has to be one of these:
 - names: of a definition, law, function, type, case or field in crates/ (.antt, .rt), of a crate, of a must-fail edit, of
   include/wort.h, or one of the words listed below as OTHERS. Names of one or two letters are not looked up.
 
-A count is a row of a table whose column is headed "lines", "files" or "edits", with a path in the row's first cell (a row "all"
-is the sum of the rows above it), or a text "`path`: N lines", "N files" or "N edits".
+A count is a number in a table whose column is headed "lines", "files" or "edits", with a path in the row's first cell (a row "all"
+is the sum of the rows above it), or a text "`path`: N lines", "N files" or "N edits". Columns headed "definitions", "code" and
+"proofs" count the lines below the path's folders specs, src and proofs.
 
 In docs/AUDIT.md, the table of files below "What a reader must believe" has to list just the files that the statements of
 crates/demands and crates/wort reach through their `use` lines, and the table below "What a reader need not believe" the others.
@@ -42,6 +43,8 @@ NAME = re.compile(r"[^\W\d][\w′₀-₉'≤≥<>≡-]*", re.U)
 DEFINED = re.compile(r"^\s*(?:\|\s*)?(?:(?:unfoldable|abbrev|pub|record|data|module|mod)\s+)*([^\W\d][^\s:(){}.;,]*)\s*(?:\{[^}]*\}\s*)*(?:[:({]|where)", re.U)
 DECLARED = re.compile(r"\b(?:fn|struct|enum|const|type|mod)\s+(\w+)|^\s*(?:pub\s+)?(\w+)(?::|\(|,|\s*\{)", re.M)
 USED = re.compile(r"^use Rattle·(\w+?)(?:·specs)?\.specs\.(\w+)", re.M)
+FOLDERS = {"definitions": "specs", "code": "src", "proofs": "proofs"}
+COUNTED = {"lines", "files", "edits", *FOLDERS}
 COUNT = re.compile(r"`([^`\s]+)`: ([\d,]+) (lines|files|edits)")
 
 
@@ -61,6 +64,7 @@ def counted(path, what):
         return len(list(path.rglob("*.edit")))
     if what == "files":
         return len(sources(path))
+    path = path / FOLDERS.get(what, "")
     return sum(counts(line) for f in sources(path) for line in f.read_text().splitlines())
 
 
@@ -163,7 +167,7 @@ class Check:
         path = re.search(r"`([^`]+)`|\]\(([^)]+)\)", cells[0])
         for i, what in enumerate(heads):
             number = cells[i].strip() if i < len(cells) else ""
-            if what not in ("lines", "files", "edits") or not re.fullmatch(r"[\d,]+", number):
+            if what not in COUNTED or not re.fullmatch(r"[\d,]+", number):
                 continue
             if path:
                 true = self.number(document, place, path.group(1) or path.group(2), what, number)
@@ -193,7 +197,7 @@ class Check:
                 cells = line.strip().strip("|").split("|")
                 if not heads:
                     heads, sums = [c.strip() for c in cells], {}
-                elif {"lines", "files", "edits"} & set(heads):
+                elif COUNTED & set(heads):
                     line = self.row(document, place, heading, cells, heads, sums)
             else:
                 heads = []
