@@ -7,7 +7,8 @@ use mathlib.Core.Path.{_≡_}
 use mathlib.Core.Logic.{_⊎_}
 use mathlib.Core.List.{List, [], _∷_}
 use Prim.Native.Nat.{ℕ, _≤_, _<_}
-use lib.ListN.{length, replicate, drop}
+use lib.ListN.{length, replicate}
+use Rattle.pool.specs.Places.{wordAt}
 use Rattle.tree.specs.Stores.{Store}
 use Rattle.plan.specs.Plans.{Decided, stepOf, finishOf}
 use Rattle.plan.specs.declared.Plan.{Plan}
@@ -54,9 +55,9 @@ pub record Demand1 : Type 0 where
       → (listOf pool from ks vs .keys ≡ ks) × (listOf pool from ks vs .values ≡ vs)
   pub list-cleared : (pool : List ℕ) (from : ℕ) (ks vs : List ℕ) → listOf pool from ks vs .answer .number ≡ 2
       → (listOf pool from ks vs .keys ≡ replicate (length ks) 0) × (listOf pool from ks vs .values ≡ replicate (length vs) 0)
-  pub list-beyond : (pool : List ℕ) (from : ℕ) (ks vs : List ℕ) → listOf pool from ks vs .answer .number ≡ 0
-      → (drop (listOf pool from ks vs .answer .count) (listOf pool from ks vs .keys) ≡ drop (listOf pool from ks vs .answer .count) ks)
-      × (drop (listOf pool from ks vs .answer .count) (listOf pool from ks vs .values) ≡ drop (listOf pool from ks vs .answer .count) vs)
+  pub list-lengths : (pool : List ℕ) (from : ℕ) (ks vs : List ℕ) → (length (listOf pool from ks vs .keys) ≡ length ks) × (length (listOf pool from ks vs .values) ≡ length vs)
+  pub list-beyond : (pool : List ℕ) (from : ℕ) (ks vs : List ℕ) → listOf pool from ks vs .answer .number ≡ 0 → (i : ℕ) → listOf pool from ks vs .answer .count ≤ i
+      → (wordAt (listOf pool from ks vs .keys) i ≡ wordAt ks i) × (wordAt (listOf pool from ks vs .values) i ≡ wordAt vs i)
   -- the planning calls
   pub plan-put : (pool map : List ℕ) (k v : ℕ) → Plans (0 ∷ 1 ∷ 2 ∷ 4 ∷ []) pool (putPlan pool map k v)
   pub plan-delete : (pool : List ℕ) (k : ℕ) → Plans (0 ∷ 1 ∷ 2 ∷ 3 ∷ []) pool (deletePlan pool k)

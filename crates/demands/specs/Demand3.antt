@@ -6,12 +6,12 @@
 use mathlib.Core.Path.{_≡_}
 use mathlib.Core.Bool.{Bool, true, false}
 use mathlib.Core.Option.{Option, none, some}
-use mathlib.Core.List.{List}
-use Prim.Native.Nat.{ℕ, zero, suc, _≤_}
+use mathlib.Core.List.{List, [], _∷_}
+use Prim.Native.Nat.{ℕ, zero, suc, _-_, _≤_}
 use lib.Dec.{eqb}
 use lib.ListN.{length, take}
 use Rattle.digits.specs.Choice.{pick}
-use Rattle.tree.specs.Stores.{Store}
+use Rattle.tree.specs.Stores.{Store, Part}
 use Rattle.pool.specs.Sizes.{bytesOf}
 use Rattle.plan.specs.Plans.{made, Decided}
 use Rattle.writing.specs.Puts.{putPlan}
@@ -40,8 +40,7 @@ abbrev pub effect : Op → Table → Table
 effect (put k v h) T = given k v T
 effect (delete k h) T = without k T
 
--- "the stores reaching memory in order": a cut leaves the first n of a plan's stores. What a cut can leave of the stores σ, and whether the
--- operation then counts, is a parameter of what follows.
+-- What a cut can leave of an operation's stores, and whether the operation then counts, is a parameter of what follows.
 abbrev pub Cut : Type 1
 Cut = Op → List Store → List Store → Bool → Type 0
 
@@ -51,8 +50,17 @@ counts (put k v h) n all = eqb n all
 counts (delete k h) zero all = false
 counts (delete k h) (suc n) all = true
 
+-- "the stores reaching memory in order": a cut leaves the first n of them
 pub data InOrder : Op → List Store → List Store → Bool → Type 0 where
-  before : {o : Op} {σ : List Store} (n : ℕ) → n ≤ length σ → InOrder o σ (take n σ) (counts o n (length σ))
+  first : {o : Op} {σ : List Store} (n : ℕ) → n ≤ length σ → InOrder o σ (take n σ) (counts o n (length σ))
+
+-- And where only the store that counts is kept in its place: of a put any of all stores but the last, or all; of a delete none, or the first and any
+-- of those after it.
+pub data Loosely : Op → List Store → List Store → Bool → Type 0 where
+  put-before : {k v : ℕ} {h : Word k} {σ τ : List Store} → Part (take (length σ - 1) σ) τ → Loosely (put k v h) σ τ false
+  put-whole : {k v : ℕ} {h : Word k} {σ : List Store} → Loosely (put k v h) σ σ true
+  delete-before : {k : ℕ} {h : Word k} {σ : List Store} → Loosely (delete k h) σ [] false
+  delete-since : {k : ℕ} {h : Word k} {s : Store} {σ τ : List Store} → Part σ τ → Loosely (delete k h) (s ∷ σ) (s ∷ τ) true
 
 -- a pool of n leaves, its map where there is one, and the plain table of all finished operations and of cut ones that count
 pub data Reach (C : Cut) (n : ℕ) : List ℕ → Option (List ℕ) → Table → Type 0 where
@@ -82,5 +90,5 @@ pub record Promised (n : ℕ) (pool : List ℕ) (map : Option (List ℕ)) (T : T
   -- "and no room is lost then": where there is a map, the pool and the map are as demand 2 asks, with the same table
   pub room : (bytes : List ℕ) → map ≡ some bytes → (r : Reading pool bytes T) × (r .sound .n ≡ n)
 
-abbrev pub Demand3Holds : Type 0
-Demand3Holds = (n : ℕ) (pool : List ℕ) (map : Option (List ℕ)) (T : Table) → Reach InOrder n pool map T → Promised n pool map T
+abbrev pub Demand3 : Cut → Type 0
+Demand3 C = (n : ℕ) (pool : List ℕ) (map : Option (List ℕ)) (T : Table) → Reach C n pool map T → Promised n pool map T

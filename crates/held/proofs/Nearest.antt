@@ -33,16 +33,6 @@ way-more f k w q (node x b s kids) g =
     go e true = rw (lt-ltb b 16 (g .1)) (ap (c ∷_) e)
     go e false = refl
 
--- what stands at the end of a way continued
-pub sub-append : (π ρ : List ℕ) (t : Tree ℕ) → sub (π ++ ρ) t ≡ sub ρ (sub π t)
-unfolding sub
-sub-append [] ρ t = refl
-sub-append (c ∷ π) [] empty = refl
-sub-append (c ∷ π) (d ∷ ρ) empty = refl
-sub-append (c ∷ π) [] (leaf x k v) = refl
-sub-append (c ∷ π) (d ∷ ρ) (leaf x k v) = refl
-sub-append (c ∷ π) ρ (node x b s kids) = sub-append π ρ (kids c)
-
 -- a walk that ends at a leaf: its key is the nearest
 pub near-leaf : (k w x k′ v : ℕ) (q : ℕ → ℕ) (t : Tree ℕ) → Good dig 16 w q t → sub (way dig 16 k t) t ≡ leaf x k′ v → near dig k t ≡ k′
 unfolding Good way sub near

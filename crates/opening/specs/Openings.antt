@@ -21,7 +21,9 @@ use Rattle.walk.specs.declared.Lowest.the-variants.{Key, NoKey}
 use Rattle.plan.specs.Plans.{made, Decided, decided, refused}
 use Rattle.plan.specs.declared.Effect.the-variants.{Nothing}
 use Rattle.opening.specs.Surveys.{Survey, surveyOf}
-use Rattle.opening.specs.declared.Opened.{Opened}
+use Rattle.opening.specs.declared.mending.Opened.{Opened}
+use Rattle.opening.specs.declared.mending.Fresh.{Fresh}
+use Rattle.opening.specs.declared.mending.Fresh.the-variants.{Header, NoHeader}
 
 -- the walk depth that a mark says
 abbrev pub depthMarked : List ℕ → ℕ → ℕ → ℕ
@@ -42,6 +44,11 @@ mendAt pool n w j Unaccepted = []
 
 abbrev pub mendOf : List ℕ → ℕ → ℕ → ℕ → List Store
 mendOf pool n w j = mendAt pool n w j (headOf w (headerAt pool n j))
+
+-- the stores of the code's answer for node j
+abbrev pub freshStores : ℕ → ℕ → Fresh → List Store
+freshStores n j (Header word) = record { word = nodeWord n j; value = word } ∷ []
+freshStores n j NoHeader = []
 
 -- "A planning call answers the first such store as a plan, or a plan of none": "lower-numbered nodes first"
 abbrev pub firstStale : List ℕ → ℕ → List ℕ → ℕ
@@ -102,12 +109,15 @@ left a pool bytes = record { answer = a; pool = pool; map = bytes }
 abbrev pub opened : ℕ → ℕ → ℕ → Opened
 opened k c h = record { number = k; keys = c; headers = h }
 
--- "It answers the number of keys and of headers rewritten." "2 | damage met | pool unchanged; open: map all 0"
+-- a sound pool with these marks: its stale headers rewritten, its map rebuilt. "It answers the number of keys and of headers rewritten."
+abbrev pub restored : ℕ → List ℕ → List ℕ → Left
+restored n marks pool =
+    left (opened 0 (keysOf n marks) (mended n marks (n - 1) pool .headers)) (mended n marks (n - 1) pool .pool) (map reached marks)
+
+-- "2 | damage met | pool unchanged; open: map all 0"
 abbrev pub leftJudged : List ℕ → List ℕ → ℕ → Survey → Left
 leftJudged pool bytes n v =
-    pick (v .census .sound)
-    (left (opened 0 (keysOf n (v .marks)) (mended n (v .marks) (n - 1) pool .headers)) (mended n (v .marks) (n - 1) pool .pool) (map reached (v .marks)))
-    (left (opened 2 0 0) pool (replicate (length bytes) 0))
+    pick (v .census .sound) (restored n (v .marks) pool) (left (opened 2 0 0) pool (replicate (length bytes) 0))
 
 abbrev pub leftIn : List ℕ → List ℕ → Size → Left
 leftIn pool bytes (Holds n) =

@@ -1,22 +1,17 @@
--- On a pool that holds a tree, a lookup answers what the tree has for the key, and counts the nodes on the key's way. In any pool they are at most 16.
+-- On a pool that holds a tree, a lookup answers what the tree has for the key, and counts the nodes on the key's way.
 -- Assumes nothing.
 use mathlib.Core.Path.{_≡_, refl, sym, ap, _∙_}
-use mathlib.Core.Bool.{Bool, true, false}
 use mathlib.Core.Option.{Option, none, some}
 use mathlib.Core.List.{List}
-use Prim.Native.Nat.{ℕ, _≤_}
+use Prim.Native.Nat.{ℕ}
 use native.Mathlib.Nat.{zero-add}
 use native.Mathlib.Omega.{arith}
 use borrow.Author.Tests.{eq-eqb, ne-eqb}
 use lib.Dec.{eqb}
-use lib.ListN.{length, getD}
+use lib.ListN.{length}
 use Rattle.digits.specs.Choice.{pick}
-use Rattle.digits.specs.Digits.{digitIn}
-use Rattle.pool.specs.Sizes.{capacityOf, Measured}
-use Rattle.pool.specs.Places.{keyAt, valueAt}
-use Rattle.pool.specs.declared.Size.{Size}
-use Rattle.pool.specs.declared.Size.the-variants.{Holds, Wrong}
-use Rattle.pool.proofs.Sizes.{size-fits}
+use Rattle.pool.specs.Sizes.{capacityOf}
+use Rattle.pool.specs.declared.Size.the-variants.{Holds}
 use Rattle.tree.specs.Tree.{Tree, empty, leaf, node, On, sub, dep, find}
 use Rattle.tree.specs.Near.{way}
 use Rattle.tree.specs.Shape
@@ -24,42 +19,14 @@ use Rattle.tree.proofs.Basics.{Same?, same, other, same?}
 use Rattle.layout.specs.Layout.{Held, base, refAt}
 use Rattle.layout.proofs.Base.{SeesLeaf}
 use Rattle.layout.proofs.Held.{sub-holds}
-use Rattle.walk.specs.Walks.{root, walkOf}
-use Rattle.walk.specs.Ends.{nodesOf}
+use Rattle.walk.specs.Walks.{root}
 use Rattle.walk.specs.declared.Spot.{Spot}
-use Rattle.walk.specs.declared.End.{End}
-use Rattle.walk.specs.declared.End.the-variants.{AtLeaf, AtEmpty, Stopped, Damaged}
-use Rattle.walk.proofs.Ends.{walk-nodes}
-use Rattle.held.specs.Ways.{mem, spotAt, endAt}
+use Rattle.held.specs.Ways.{dig, mem, spotAt, endAt}
 use Rattle.held.proofs.Heads.{held-leaf}
 use Rattle.held.proofs.Walks.{walk-held}
 use Rattle.held.proofs.Spots.{spot-nodes, way-on, way-finds, way-ends, NoNode}
-use Rattle.reading.specs.Lookups.{Answer, answer, foundAt, foundIn, lookupOf}
+use Rattle.reading.specs.Lookups.{Answer, answer, foundAt, lookupOf}
 use Rattle.reading.specs.Rows.{Finds}
-
-abbrev dig : ℕ → ℕ → ℕ
-dig = digitIn 16
-
--- ---- the nodes that a lookup counts
-module _ (pool : List ℕ) (k : ℕ) where
-  nodes-passed : (e : End) → foundAt pool k e .nodes ≡ nodesOf e
-  nodes-passed (AtLeaf s i) = go (eqb (keyAt pool i) k)
-    where
-      go : (b : Bool) → pick b (answer 0 (valueAt pool i) (s .nodes)) (answer 3 0 (s .nodes)) .nodes ≡ s .nodes
-      go true = refl
-      go false = refl
-  nodes-passed (AtEmpty s) = refl
-  nodes-passed (Stopped s j b) = refl
-  nodes-passed (Damaged m) = refl
-
-  nodes-few : (z : Size) → Measured pool z → foundIn pool k z .nodes ≤ 16
-  nodes-few (Holds n) fits = rw (nodes-passed (walkOf pool n k)) (walk-nodes fits k 16 refl)
-  nodes-few Wrong fits = omega arith
-
-  -- "Lookup also reports how many nodes had an accepted header on its walk, at most 16."
-  pub lookup-nodes : lookupOf pool k .nodes ≤ 16
-  unfolding lookupOf capacityOf
-  lookup-nodes = nodes-few (capacityOf pool) (size-fits pool (getD pool 0 0))
 
 -- ---- what it answers
 -- the value that a key has, or that it has none, in a lookup's numbers, with m nodes passed

@@ -2,24 +2,22 @@
 -- Assumes nothing.
 use mathlib.Core.Path.{_≡_, refl, sym, ap, _∙_}
 use mathlib.Core.List.{List}
-use Prim.Native.Nat.{ℕ, _+_, _≤_, _<_}
+use Prim.Native.Nat.{ℕ, _+_, _≤_}
 use native.Mathlib.Omega.{arith}
 use Rattle.digits.specs.Digits.{digitOf}
 use Rattle.pool.specs.Sizes.{capacityOf}
 use Rattle.pool.specs.Places.{wordAt, childAt}
-use Rattle.pool.specs.Refs.{refOf, Within}
+use Rattle.pool.specs.Refs.{refOf}
 use Rattle.pool.specs.declared.Size.{Size}
 use Rattle.pool.specs.declared.Size.the-variants.{Holds, Wrong}
 use Rattle.pool.specs.declared.Ref.{Ref}
 use Rattle.pool.specs.declared.Ref.the-variants.{Empty, Leaf, Node, Bad}
-use Rattle.walk.specs.Walks.{root, below, endOf, walkOf}
+use Rattle.walk.specs.Walks.{root, below, endOf, walkFrom, walkOf}
 use Rattle.walk.specs.Ends.{Accepted}
 use Rattle.walk.specs.declared.Spot.{Spot}
-use Rattle.walk.specs.declared.End.{End}
-use Rattle.walk.specs.declared.End.the-variants.{Damaged}
 use Rattle.walk.proofs.Heads.{NoNode, Refused}
-use Rattle.walk.proofs.Walks.{Walks, ends, damaged, goes, walk-one-end}
-use Rattle.reading.specs.Lookups.{Answer, answer, foundEnd, foundAt, lookupOf}
+use Rattle.walk.proofs.Walks.{walk-ends, walk-damaged, walk-on}
+use Rattle.reading.specs.Lookups.{answer, foundEnd, foundAt, lookupOf}
 
 -- the walk along the key comes past so many nodes to the word x, at walk depth w
 pub record Comes (pool : List ℕ) (n key x w nodes : ℕ) : Type 0 where
@@ -29,7 +27,7 @@ pub record Comes (pool : List ℕ) (n key x w nodes : ℕ) : Type 0 where
   pub passed : spot .nodes ≡ nodes
   pub nodes≤ : nodes ≤ w
   pub w≤ : w ≤ 16
-  pub onward : (e : End) → Walks pool n key 16 spot e → e ≡ walkOf pool n key
+  pub onward : walkFrom 17 pool n key 16 spot ≡ walkOf pool n key
 
 module _ {pool : List ℕ} {n key : ℕ} where
   -- "It begins at the root reference with walk depth w = 0."
@@ -42,7 +40,7 @@ module _ {pool : List ℕ} {n key : ℕ} where
         passed = refl;
         nodes≤ = omega arith;
         w≤ = omega arith;
-        onward = λ e w. walk-one-end pool n key 16 w 17 (omega arith) (omega arith);
+        onward = refl;
       }
 
   module _ {x w nodes : ℕ} (c : Comes pool n key x w nodes) where
@@ -52,11 +50,11 @@ module _ {pool : List ℕ} {n key : ℕ} where
     found-end (Node j) = rw (c .passed)
     found-end Bad = rw (c .passed)
 
-    pub comes-end : (r : Ref) → r ≡ refOf n x → Within n r → NoNode r → foundEnd pool key nodes r ≡ foundAt pool key (walkOf pool n key)
-    comes-end r e i h = found-end r ∙ ap (foundAt pool key) (c .onward _ (ends r (rw (c .word) (sym e)) i h refl))
+    pub comes-end : (r : Ref) → r ≡ refOf n x → NoNode r → foundEnd pool key nodes r ≡ foundAt pool key (walkOf pool n key)
+    comes-end r e h = found-end r ∙ ap (foundAt pool key) (sym (walk-ends pool n key 16 16 (c .spot) r (rw (c .word) (sym e)) h) ∙ c .onward)
 
     pub comes-damaged : {j : ℕ} → Refused pool n w x j → answer 2 0 nodes ≡ foundAt pool key (walkOf pool n key)
-    comes-damaged {j} g = rw (← c .passed) (ap (foundAt pool key) (c .onward (Damaged (c .spot .nodes)) (damaged j (rw (c .depth, c .word) g) refl)))
+    comes-damaged {j} g = rw (← c .passed) (ap (foundAt pool key) (sym (walk-damaged pool n key 16 16 (c .spot) j (rw (c .depth, c .word) g)) ∙ c .onward))
 
     -- past an accepted node, to the child chosen by its digit
     pub comes-below : {j b y d : ℕ} → Accepted pool n w x j b → d ≡ digitOf key b → y ≡ childAt pool n j d → Comes pool n key y (b + 1) (nodes + 1)
@@ -68,7 +66,7 @@ module _ {pool : List ℕ} {n key : ℕ} where
           passed = rw (c .passed);
           nodes≤ = omega arith;
           w≤ = omega arith;
-          onward = λ z h. c .onward z (goes j b (rw (c .depth, c .word) a) (a .b<) h);
+          onward = walk-on pool n key 16 (c .spot) j b (rw (c .depth, c .word) a) (a .b<) ∙ c .onward;
         }
 
 module _ (pool : List ℕ) (key : ℕ) {r : Size} (e : r ≡ capacityOf pool) where

@@ -6,7 +6,6 @@ use Prim.Native.Nat.{ℕ, zero, suc, _+_, _≤_, _<_}
 use native.Mathlib.Decide.{decLe, decLt}
 use native.Mathlib.Numerals.{add-one}
 use native.Mathlib.Omega.{arith}
-use Rattle.digits.specs.Choice.{pick}
 use Rattle.digits.specs.Loops.{upto, scan, tally}
 use Rattle.walk.proofs.Loops.{scan-here}
 
@@ -32,6 +31,12 @@ pub upto-same : {A : Type 0} (f g : ℕ → A → A) (a : A) → ((m : ℕ) (x :
 unfolding upto
 upto-same f g a h zero = refl
 upto-same f g a h (suc i) = h i (upto i f a) ∙ ap (g i) (upto-same f g a h i)
+
+-- what every turn keeps a loop keeps
+pub upto-keeps : {A : Type 0} (P : A → Type 0) (f : ℕ → A → A) → ((m : ℕ) (x : A) → P x → P (f m x)) → (i : ℕ) (a : A) → P a → P (upto i f a)
+unfolding upto
+upto-keeps P f h zero a p = p
+upto-keeps P f h (suc i) a p = h i (upto i f a) (upto-keeps P f h i a p)
 
 module _ (test : ℕ → Bool) where
   pub scan-le : (n i : ℕ) → scan n i test ≤ i + n

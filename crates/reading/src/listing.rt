@@ -1,12 +1,12 @@
 // Listing: a visit of a reference, and of a node's sixteen references, lowest first.
 ghost use mathlib.Core.Path.{_≡_};
+ghost use mathlib.Core.Bool.{false};
 ghost use Prim.Native.Nat.{ℕ, _+_, _-_, _<_, _≤_};
 ghost use lib.ListN.{length, replicate};
-ghost use Rattle.pool.specs.Sizes.{Sized};
-ghost use mathlib.Core.Bool.{false};
 ghost use Rattle.digits.specs.Loops.{scan};
+ghost use Rattle.pool.specs.Sizes.{Sized};
 ghost use Rattle.walk.specs.Walks.{isChild};
-ghost use Rattle.reading.specs.Listings.{visit, damaged, leafOf, nodeOf, visitFrom, shown, listed, listOf};
+ghost use Rattle.reading.specs.Listings.{state, visit, damaged, leafOf, nodeOf, visitFrom, shown, listed, listOf};
 use digits::Header;
 use pool::Ref;
 use pool::Size;
@@ -33,6 +33,14 @@ const FURTHER: usize = 1;
 
 const DAMAGE: usize = 2;
 
+impl State {
+    fn new(count: usize, met: usize, phase: usize) -> Self
+        ensures { λ r. ⌜ r ≡ state count met phase ⌝ }
+    {
+        Self { count, met, phase }
+    }
+}
+
 // A leaf is met.
 fn leaf(
     keys: &mut [u64],
@@ -52,37 +60,21 @@ fn leaf(
         return spoil(s);
     }
     if key < from {
-        return State {
-            count,
-            met: met + 1,
-            phase: ON,
-        };
+        return State::new(count, met + 1, ON);
     }
     if keys.len() <= count {
-        return State {
-            count,
-            met: met + 1,
-            phase: FURTHER,
-        };
+        return State::new(count, met + 1, FURTHER);
     }
     keys[count] = key;
     values[count] = value;
-    State {
-        count: count + 1,
-        met: met + 1,
-        phase: ON,
-    }
+    State::new(count + 1, met + 1, ON)
 }
 
 // Damage is met.
 fn spoil(s: State) -> State
     ensures { λ r. ⌜ r ≡ damaged s ⌝ }
 {
-    State {
-        count: s.count,
-        met: s.met,
-        phase: DAMAGE,
-    }
+    State::new(s.count, s.met, DAMAGE)
 }
 
 // The reference r is visited where no node is looked for: a node is damage here, as it is where no digit is left.
@@ -187,16 +179,16 @@ fn visit_node(
 // The lowest child of node j from the place `at` on, 16 for none.
 fn next_child(pool: &[u64], n: usize, j: usize, at: usize) -> usize
     requires { ⌜ Sized (now pool) n × (j + 1 < n) ⌝ }
-    ensures { λ c. ⌜ c ≡ scan (16 - at) at (isChild (now (pool .entry)) n j) ⌝ }
+    ensures { λ r. ⌜ r ≡ scan (16 - at) at (isChild (now (pool .entry)) n j) ⌝ }
 {
-    let mut c = at;
-    while c < Header::CHILDREN {
-        if pool::child(pool, n, j, c) != 0 {
-            return c;
+    let mut next = at;
+    while next < Header::CHILDREN {
+        if pool::child(pool, n, j, next) != 0 {
+            return next;
         }
-        c += 1;
+        next += 1;
     }
-    c
+    next
 }
 
 // Every entry of a buffer becomes 0.
@@ -234,11 +226,7 @@ pub fn list(pool: &[u64], from: u64, keys: &mut [u64], values: &mut [u64]) -> Li
     if keys.len() != values.len() {
         return refused(6);
     }
-    let start = State {
-        count: 0,
-        met: 0,
-        phase: ON,
-    };
+    let start = State::new(0, 0, ON);
     let s = visit_ref(pool, n, from, Header::DIGITS, pool[1], keys, values, start);
     let phase = s.phase;
     if phase == DAMAGE {

@@ -5,3 +5,6 @@ pub mod Puts
 pub mod Deletes
 pub mod Fits
 pub mod Wholes
+pub mod HeldRoom
+pub mod HeldPuts
+pub mod HeldDeletes

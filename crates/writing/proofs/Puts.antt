@@ -1,4 +1,4 @@
--- Which plan a put comes to: by where the walk ends, and beside which key.
+-- Where a put goes: by where the walk ends, and beside which key. Every place found leads to the definition's plan, whatever the map and the value.
 -- Assumes nothing.
 use mathlib.Core.Path.{_≡_, refl, sym, ap, _∙_}
 use mathlib.Core.List.{List, [], _∷_}
@@ -10,89 +10,139 @@ use denote.Enum.Declared.{tagOf}
 use lib.ListN.{length}
 use Rattle.digits.specs.Digits.{firstDiff}
 use Rattle.digits.proofs.Digits.{first-diff-le}
+use Rattle.tree.proofs.Basics.{Same?, same, other, same?}
 use Rattle.pool.specs.Sizes.{Sized, capacityOf, bytesOf}
+use Rattle.pool.specs.Places.{wordAt, keyAt}
 use Rattle.pool.specs.declared.Size.{Size}
 use Rattle.pool.specs.declared.Size.the-variants.{Holds, Wrong}
-use Rattle.walk.specs.Walks.{walkOf, walkTo}
+use Rattle.walk.specs.Walks.{walkOf, walkTo, lowestOf}
 use Rattle.walk.specs.Ends.{Inside}
 use Rattle.walk.specs.declared.Spot.{Spot}
 use Rattle.walk.specs.declared.End.{End}
 use Rattle.walk.specs.declared.End.the-variants.{AtLeaf, AtEmpty, Stopped, Damaged}
+use Rattle.walk.specs.declared.Lowest.{Lowest}
+use Rattle.walk.specs.declared.Lowest.the-variants.{Key, NoKey}
 use Rattle.walk.proofs.End.{the-type}
 use Rattle.walk.proofs.Ends.{walk-inside}
-use Rattle.tree.proofs.Basics.{Same?, same, other, same?}
-use Rattle.plan.specs.Plans.{refused}
+use Rattle.plan.specs.Plans.{Decided, refused}
 use Rattle.writing.specs.declared.splitting.Cleft.{Cleft}
 use Rattle.writing.specs.declared.splitting.Target.the-variants.{ALeaf, ANode}
-use Rattle.writing.specs.Puts.{growOf, splitOf, cleftAt, placedAt, besideOf, putAt, putPlan}
+use Rattle.writing.specs.declared.putting.Place.{Place}
+use Rattle.writing.specs.declared.putting.Place.the-variants.{Held, Gap, Apart, Refused}
+use Rattle.writing.specs.Puts.{cleftAt, placedAt, besideOf, leafPut, emptyPut, putAt, putPlan}
+use Rattle.writing.specs.Leads.{planAt, Leads}
 
--- ---- where a walk stands
--- the reference to the last node of a walk is inside the pool; before the first node it counts as word 0
+-- ---- the walk's last node
+-- the reference to it is inside the pool; before the first node that counts as word 0
 pub over-inside : {pool : List ℕ} {n stop : ℕ} {s : Spot} → Sized pool n → Inside pool n stop s → (s .over < length pool) × (s .above ≤ s .depth)
 over-inside {pool} {s = s} z i = go (same? (s .nodes) 0)
   where
     go : Same? (s .nodes) 0 → (s .over < length pool) × (s .above ≤ s .depth)
     go (same e q) = rw (i .began e) (omega arith, omega arith)
-    go (other n q) = let p = i .passed n in (omega arith, omega (arith, p .accepted .w≤b))
-
--- the reference that the walk stopped or ended at is inside the pool, not past the digit f at which it was to stop
-pub record Apart (pool : List ℕ) (s : Spot) (f : ℕ) : Type 0 where
-  pub at< : s .at < length pool
-  pub depth≤ : s .depth ≤ f
-  pub f< : f < 16
-
-module _ {pool : List ℕ} {n : ℕ} (z : Sized pool n) (k k2 : ℕ) {f : ℕ} (first : f ≡ firstDiff k k2) (differ : f ≡ 16 → ⊥) {e : End} (walks : e ≡ walkTo pool n k f) where
-  digit : f < 16
-  digit = omega (arith, first-diff-le k k2 16)
-
-  pub leaf-apart : {s : Spot} {i : ℕ} → e ≡ AtLeaf s i → Apart pool s f
-  leaf-apart q =
-      let i = walk-inside z k f (sym q ∙ walks) .inside in
-      record { at< = omega arith; depth≤ = i .depth≤stop; f< = digit }
-
-  pub node-apart : {s : Spot} {j b : ℕ} → e ≡ Stopped s j b → Apart pool s f
-  node-apart q =
-      let i = walk-inside z k f (sym q ∙ walks) .inside in
-      record { at< = omega arith; depth≤ = i .depth≤stop; f< = digit }
-
-  -- a node that is split off branches past f
-  pub node-splits : {s : Spot} {j b : ℕ} → e ≡ Stopped s j b → (b ≡ f → ⊥) → (j + 1 < n) × (f < b) × (b < 16)
-  node-splits q d =
-      let h = walk-inside z k f (sym q ∙ walks) in
-      (h .accepted .j<, omega arith, h .accepted .b<)
+    go (other n q) =
+        let p = i .passed n in
+        (omega arith, omega (arith, p .accepted .w≤b))
 
 -- ---- beside another key
-module _ (pool map : List ℕ) (n k v last gap k2 : ℕ) {f : ℕ} (first : f ≡ firstDiff k k2) where
-  pub beside-same : f ≡ 16 → refused 2 ≡ besideOf pool map n k v last gap k2
-  beside-same h = rw (← first, eq-eqb f 16 h)
+-- a refusal asks for nothing
+leads-refused : {n k m : ℕ} {plan : List ℕ → ℕ → Decided} → ((map : List ℕ) (v : ℕ) → refused m ≡ plan map v) → Leads n k (Refused m) plan
+leads-refused h = record { able = tt; plans = h }
+
+module _ {pool : List ℕ} {n : ℕ} (z : Sized pool n) (k last gap k2 : ℕ) {f : ℕ} (first : f ≡ firstDiff k k2) where
+  abbrev Besides : Place → Type 0
+  Besides p = Leads n k p (λ map v. besideOf pool map n k v last gap k2)
+
+  pub beside-same : f ≡ 16 → Besides (Refused 2)
+  beside-same h = leads-refused (λ map v. rw (← first, eq-eqb f 16 h))
 
   module _ (differ : f ≡ 16 → ⊥) {e : End} (walks : e ≡ walkTo pool n k f) where
-    placed : placedAt pool map n k v k2 f last gap e ≡ besideOf pool map n k v last gap k2
-    placed = rw (← first, ne-eqb f 16 differ, ← walks)
+    digit : f < 16
+    digit = omega (arith, first-diff-le k k2 16)
 
-    pub beside-leaf : {s : Spot} {i : ℕ} {c : Cleft} → e ≡ AtLeaf s i → c ≡ cleftAt pool k2 f s → splitOf map n c k v ALeaf ≡ besideOf pool map n k v last gap k2
-    beside-leaf q g = rw (← placed, q, g)
+    placed : (map : List ℕ) (v : ℕ) → placedAt pool map n k v k2 f last gap e ≡ besideOf pool map n k v last gap k2
+    placed map v = rw (← first, ne-eqb f 16 differ, ← walks)
 
-    pub beside-node : {s : Spot} {j b : ℕ} {c : Cleft} → e ≡ Stopped s j b → (b ≡ f → ⊥) → c ≡ cleftAt pool k2 f s → splitOf map n c k v (ANode j b) ≡ besideOf pool map n k v last gap k2
-    beside-node {b = b} q d g = rw (← placed, q, g, ne-eqb b f d)
+    -- the reference to a leaf is split
+    pub leaf-at : {s : Spot} {i : ℕ} → e ≡ AtLeaf s i → s .at < length pool
+    leaf-at q = omega (arith, walk-inside z k f (sym q ∙ walks) .inside .at<)
 
-    pub beside-gap : {s : Spot} {j b : ℕ} → e ≡ Stopped s j b → b ≡ f → s .nodes + 1 ≡ last → growOf map n k v gap ≡ besideOf pool map n k v last gap k2
-    beside-gap {s} {b = b} q d l = rw (← placed, q, eq-eqb b f d, eq-eqb (s .nodes + 1) last l)
+    pub leaf-apart : {s : Spot} {i : ℕ} {c : Cleft} → e ≡ AtLeaf s i → c ≡ cleftAt pool k2 f s → Besides (Apart c ALeaf)
+    leaf-apart q g =
+        let h = walk-inside z k f (sym q ∙ walks) in
+        record { able = rw g (h .inside .depth≤stop, digit, tt); plans = λ map v. rw (← placed map v, q, g) }
 
-    pub beside-earlier : {s : Spot} {j b : ℕ} → e ≡ Stopped s j b → b ≡ f → (s .nodes + 1 ≡ last → ⊥) → refused 2 ≡ besideOf pool map n k v last gap k2
-    beside-earlier {s} {b = b} q d l = rw (← placed, q, eq-eqb b f d, ne-eqb (s .nodes + 1) last l)
+    module _ {s : Spot} {j b : ℕ} (stopped : e ≡ Stopped s j b) where
+      -- the reference to a node that branches past f is split
+      pub node-at : s .at < length pool
+      node-at = omega (arith, walk-inside z k f (sym stopped ∙ walks) .inside .at<)
+
+      pub node-apart : {c : Cleft} → (b ≡ f → ⊥) → c ≡ cleftAt pool k2 f s → Besides (Apart c (ANode j b))
+      node-apart d g =
+          let h = walk-inside z k f (sym stopped ∙ walks) in
+          let l : f < b = omega arith in
+          record {
+            able = rw g (h .inside .depth≤stop, digit, (h .accepted .j<, l, h .accepted .b<));
+            plans = λ map v. rw (← placed map v, stopped, g, ne-eqb b f d);
+          }
+
+      -- the walk's last node branches at f, and its child is empty
+      pub few-nodes : s .nodes ≤ 16
+      few-nodes = let h = walk-inside z k f (sym stopped ∙ walks) .inside in omega arith
+
+      pub gap-there : b ≡ f → s .nodes + 1 ≡ last → Besides (Gap gap)
+      gap-there d l = record { able = tt; plans = λ map v. rw (← placed map v, stopped, eq-eqb b f d, eq-eqb (s .nodes + 1) last l) }
+
+      -- an earlier one does
+      pub gap-elsewhere : b ≡ f → (s .nodes + 1 ≡ last → ⊥) → Besides (Refused 2)
+      gap-elsewhere d l = leads-refused (λ map v. rw (← placed map v, stopped, eq-eqb b f d, ne-eqb (s .nodes + 1) last l))
 
     -- what two matches leave
-    pub beside-damaged : OneOf (1 ∷ 2 ∷ 3 ∷ []) (tagOf the-type e) → OneOf (0 ∷ 1 ∷ 3 ∷ []) (tagOf the-type e) → refused 2 ≡ besideOf pool map n k v last gap k2
-    beside-damaged p q = rw (← placed) (go e p q)
+    pub beside-damaged : OneOf (1 ∷ 2 ∷ 3 ∷ []) (tagOf the-type e) → OneOf (0 ∷ 1 ∷ 3 ∷ []) (tagOf the-type e) → Besides (Refused 2)
+    beside-damaged p q = leads-refused (λ map v. rw (← placed map v) (go map v e p q))
       where
-        go : (e : End) → OneOf (1 ∷ 2 ∷ 3 ∷ []) (tagOf the-type e) → OneOf (0 ∷ 1 ∷ 3 ∷ []) (tagOf the-type e) → refused 2 ≡ placedAt pool map n k v k2 f last gap e
-        go (AtLeaf s i) p q = absurd (miss (1 ∷ 2 ∷ 3 ∷ []) 0 tt p)
-        go (AtEmpty s) p q = refl
-        go (Stopped s j b) p q = absurd (miss (0 ∷ 1 ∷ 3 ∷ []) 2 tt q)
-        go (Damaged m) p q = refl
+        go : (map : List ℕ) (v : ℕ) (e : End) → OneOf (1 ∷ 2 ∷ 3 ∷ []) (tagOf the-type e) → OneOf (0 ∷ 1 ∷ 3 ∷ []) (tagOf the-type e)
+            → refused 2 ≡ placedAt pool map n k v k2 f last gap e
+        go map v (AtLeaf s i) p q = absurd (miss (1 ∷ 2 ∷ 3 ∷ []) 0 tt p)
+        go map v (AtEmpty s) p q = refl
+        go map v (Stopped s j b) p q = absurd (miss (0 ∷ 1 ∷ 3 ∷ []) 2 tt q)
+        go map v (Damaged m) p q = refl
+
+-- ---- the walk ended at leaf i, with key x
+module _ (pool : List ℕ) {n : ℕ} (k : ℕ) {i x : ℕ} (l : i < n) (key : x ≡ keyAt pool i) where
+  pub key-held : x ≡ k → Leads n k (Held i) (λ map v. leafPut pool map n k v i)
+  key-held h = record { able = l; plans = λ map v. rw (← key, eq-eqb x k h) }
+
+  pub key-other : {p : Place} → (x ≡ k → ⊥) → Leads n k p (λ map v. besideOf pool map n k v 0 0 x) → Leads n k p (λ map v. leafPut pool map n k v i)
+  key-other h b = record { able = b .able; plans = λ map v. rw (← key, ne-eqb x k h) (b .plans map v) }
+
+-- ---- the walk ended at an empty reference
+module _ (pool : List ℕ) (n k : ℕ) (s : Spot) where
+  pub root-empty : s .nodes ≡ 0 → Leads n k (Gap (s .at)) (λ map v. emptyPut pool map n k v s)
+  root-empty h = record { able = tt; plans = λ map v. rw (eq-eqb (s .nodes) 0 h) }
+
+  module _ (h : s .nodes ≡ 0 → ⊥) {r : Lowest} (lowest : r ≡ lowestOf pool n (s .above) (wordAt pool (s .over))) where
+    pub no-key-below : r ≡ NoKey → Leads n k (Refused 2) (λ map v. emptyPut pool map n k v s)
+    no-key-below q = leads-refused (λ map v. rw (ne-eqb (s .nodes) 0 h, ← lowest, q))
+
+    pub key-below : {k2 : ℕ} {p : Place} → r ≡ Key k2 → Leads n k p (λ map v. besideOf pool map n k v (s .nodes) (s .at) k2) → Leads n k p (λ map v. emptyPut pool map n k v s)
+    key-below q b = record { able = b .able; plans = λ map v. rw (ne-eqb (s .nodes) 0 h, ← lowest, q) (b .plans map v) }
 
 -- ---- by where the walk ends
+module _ (pool : List ℕ) (n k : ℕ) {e : End} (walks : e ≡ walkOf pool n k) where
+  pub ends-lead : {x : End} {p : Place} → e ≡ x → Leads n k p (λ map v. putAt pool map n k v x) → Leads n k p (λ map v. putAt pool map n k v (walkOf pool n k))
+  ends-lead q b = record { able = b .able; plans = λ map v. rw (← walks, q) (b .plans map v) }
+
+  -- what two matches leave
+  pub ends-damaged : OneOf (1 ∷ 2 ∷ 3 ∷ []) (tagOf the-type e) → OneOf (0 ∷ 2 ∷ 3 ∷ []) (tagOf the-type e) → Leads n k (Refused 2) (λ map v. putAt pool map n k v (walkOf pool n k))
+  ends-damaged p q = leads-refused (λ map v. rw (← walks) (go map v e p q))
+    where
+      go : (map : List ℕ) (v : ℕ) (e : End) → OneOf (1 ∷ 2 ∷ 3 ∷ []) (tagOf the-type e) → OneOf (0 ∷ 2 ∷ 3 ∷ []) (tagOf the-type e) → refused 2 ≡ putAt pool map n k v e
+      go map v (AtLeaf s i) p q = absurd (miss (1 ∷ 2 ∷ 3 ∷ []) 0 tt p)
+      go map v (AtEmpty s) p q = absurd (miss (0 ∷ 2 ∷ 3 ∷ []) 1 tt q)
+      go map v (Stopped s j b) p q = refl
+      go map v (Damaged m) p q = refl
+
+-- ---- by the sizes
 module _ (pool map : List ℕ) (k v : ℕ) {z : Size} (size : z ≡ capacityOf pool) where
   pub put-unsized : z ≡ Wrong → refused 1 ≡ putPlan pool map k v
   unfolding putPlan
@@ -103,17 +153,6 @@ module _ (pool map : List ℕ) (k v : ℕ) {z : Size} (size : z ≡ capacityOf p
     unfolding putPlan
     put-unmapped h = rw (← size, holds, ne-eqb (length map) (bytesOf n) h)
 
-    module _ (bytes : length map ≡ bytesOf n) {e : End} (walks : e ≡ walkOf pool n k) where
-      pub put-at : {x : End} → e ≡ x → putAt pool map n k v x ≡ putPlan pool map k v
-      unfolding putPlan
-      put-at q = rw (← size, holds, eq-eqb (length map) (bytesOf n) bytes, ← walks, q)
-
-      -- what two matches leave
-      pub put-damaged : OneOf (1 ∷ 2 ∷ 3 ∷ []) (tagOf the-type e) → OneOf (0 ∷ 2 ∷ 3 ∷ []) (tagOf the-type e) → refused 2 ≡ putPlan pool map k v
-      put-damaged p q = go e p q ∙ put-at refl
-        where
-          go : (e : End) → OneOf (1 ∷ 2 ∷ 3 ∷ []) (tagOf the-type e) → OneOf (0 ∷ 2 ∷ 3 ∷ []) (tagOf the-type e) → refused 2 ≡ putAt pool map n k v e
-          go (AtLeaf s i) p q = absurd (miss (1 ∷ 2 ∷ 3 ∷ []) 0 tt p)
-          go (AtEmpty s) p q = absurd (miss (0 ∷ 2 ∷ 3 ∷ []) 1 tt q)
-          go (Stopped s j b) p q = refl
-          go (Damaged m) p q = refl
+    pub put-placed : {p : Place} → length map ≡ bytesOf n → Leads n k p (λ map v. putAt pool map n k v (walkOf pool n k)) → planAt map n k v p ≡ putPlan pool map k v
+    unfolding putPlan
+    put-placed h b = rw (← size, holds, eq-eqb (length map) (bytesOf n) h) (b .plans map v)

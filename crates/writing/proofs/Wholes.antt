@@ -132,7 +132,7 @@ plan-delete-unique pool k a b = a ∙ sym b
 
 -- ---- format
 -- a run that is to hold n leaves holds n, or its size is wrong
-size-same : (words n m : ℕ) → Holds m ≡ sizeOf words n → m ≡ n
+pub size-same : (words n m : ℕ) → Holds m ≡ sizeOf words n → m ≡ n
 unfolding sizeOf
 size-same words n m e = go (ltb n 1) (ltb 1024 n) (eqb words (19 * n - 15)) e
   where

@@ -1,3 +1,4 @@
 pub mod Puts
+pub mod Leads
 pub mod Deletes
 pub mod Calls

@@ -8,10 +8,14 @@ enum-known-r : tie.Need-enum-known-r
 enum-known-r c = search needs
 
 leaf-key-requires : tie.Need-leaf-key-requires
-leaf-key-requires c κs = (c .before .before .before .before .pre .0, rw (c .before .r .given .1) at (c .before .before .before .before .pre .1))
+leaf-key-requires c κs =
+    let p = c .before .before .before .before .pre in
+    (p .0, rw (c .before .r .given .1) at (p .1))
 
 leaf-value-requires : tie.Need-leaf-value-requires
-leaf-value-requires c κs = (c .before .before .before .before .before .before .pre .0, rw (c .before .before .before .r .given .1) at (c .before .before .before .before .before .before .pre .1))
+leaf-value-requires c κs =
+    let p = c .before .before .before .before .before .before .pre in
+    (p .0, rw (c .before .before .before .r .given .1) at (p .1))
 
 enum-told : tie.Need-enum-told
 enum-told c = search needs

@@ -1,6 +1,6 @@
 -- `lookup` makes the walk along the key without keeping more of it than it answers. Assumes nothing.
-use mathlib.Core.Path.{_≡_, refl, sym, _∙_}
-use Prim.Native.Nat.{ℕ, _-_}
+use mathlib.Core.Path.{_≡_, _∙_}
+use Prim.Native.Nat.{_-_}
 use native.Mathlib.Omega.{arith}
 use borrow.Author.Needs.{needs}
 use Rattle.pool.specs.Sizes.{Sized}
@@ -17,6 +17,31 @@ Inv-loop pool key n x₀ w₀ nodes₀ x w nodes = Sized pool n × Comes pool n 
 
 abbrev μ-loop : tie.MeasureT-loop
 μ-loop pool key n x₀ w₀ nodes₀ x w nodes = 16 - w
+
+-- of a turn that has come to `accept`: where it knows the node, the reference, the loop, the capacity and the start
+abbrev at-node : tie.After-accept Inv-loop μ-loop → tie.After-r Inv-loop μ-loop
+at-node t = t .before .before .before
+
+abbrev at-reference : tie.After-accept Inv-loop μ-loop → tie.After-reference Inv-loop μ-loop
+at-reference t = t .before .before .before .before .before
+
+abbrev at-loop : tie.After-accept Inv-loop μ-loop → tie.At-loop Inv-loop μ-loop
+at-loop t = t .before .before .before .before .before .before
+
+abbrev at-capacity : tie.After-accept Inv-loop μ-loop → tie.After-n Inv-loop μ-loop
+at-capacity t = t .before .before .before .before .before .before .before .before .before
+
+abbrev start : tie.After-accept Inv-loop μ-loop → tie.Start Inv-loop μ-loop
+start t = t .before .before .before .before .before .before .before .before .before .before .before .before .before
+
+node : (c : tie.After-b Inv-loop μ-loop)
+    → let t = c .before .before in
+    let l = at-loop t .loop in
+    Accepted (start t .args .pool .now) (at-capacity t .n .given .0 .0) (l .w) (l .x) (at-node t .r .given .0 .0) (c .b .given .0 .0)
+node c =
+    let t = c .before .before in
+    let r = at-reference t .reference .ensures in
+    accepted _ _ _ _ (r .0) (at-node t .r .given .1) (t .before .header .ensures) (t .accept .ensures .0) (r .1) (t .accept .ensures .1) (c .b .given .1)
 
 capacity-requires : tie.Need-capacity-requires Inv-loop μ-loop
 capacity-requires c κs = search needs
@@ -48,13 +73,14 @@ enum-known-r : tie.Need-enum-known-r Inv-loop μ-loop
 enum-known-r c = search needs
 
 found-end-requires : tie.Need-found-end-requires Inv-loop μ-loop
-found-end-requires c κs = (c .before .before .loop .inv .0, c .before .reference .ensures .1)
+found-end-requires c κs = (c .before .before .loop .inv .0, search needs)
 
 returns-2 : tie.Need-returns-2 Inv-loop μ-loop
 returns-2 c =
     let r = c .before .before .reference in
     let l = c .before .before .before .loop in
-    c .found-end .ensures ∙ comes-end (l .inv .1) (r .result) (r .ensures .0) (r .ensures .1) (unmatched (r .result) (c .before .match2 .keys2)) ∙ l .inv .2
+    let h = unmatched (r .result) (c .before .match2 .keys2) in
+    c .found-end .ensures ∙ comes-end (l .inv .1) (r .result) (r .ensures .0) h ∙ l .inv .2
 
 header-requires : tie.Need-header-requires Inv-loop μ-loop
 header-requires c κs = (c .before .before .before .before .loop .inv .0, rw (c .before .r .given .1) at (c .before .before .before .reference .ensures .1))
@@ -71,39 +97,36 @@ enum-told-2 c = search needs
 returns-3 : tie.Need-returns-3 Inv-loop μ-loop
 returns-3 c =
     let t = c .before .before in
-    let l = t .before .before .before .before .before .before .loop in
-    comes-damaged (l .inv .1) (refused _ _ _ _ (t .before .before .before .before .before .reference .ensures .0) (t .before .before .before .r .given .1) (t .before .header .ensures) (t .accept .ensures .0) (c .enum-told2 .given .1)) ∙ l .inv .2
-
--- what is known of the node where its header is accepted
-node : (c : tie.After-b Inv-loop μ-loop)
-    → let a = c .before .before .before .before .before .before .before .before .before .before .before .before .before .before .before .args in
-    let l = c .before .before .before .before .before .before .before .before .loop in
-    Accepted (a .pool .now) (c .before .before .before .before .before .before .before .before .before .before .before .n .given .0 .0) (l .w) (l .x) (c .before .before .before .before .before .r .given .0 .0) (c .b .given .0 .0)
-node c =
-    let t = c .before .before in
-    let r = t .before .before .before .before .before .reference .ensures in
-    accepted _ _ _ _ (r .0) (t .before .before .before .r .given .1) (t .before .header .ensures) (t .accept .ensures .0) (r .1) (t .accept .ensures .1) (c .b .given .1)
+    let l = at-loop t .loop in
+    let g = refused _ _ _ _ (at-reference t .reference .ensures .0) (at-node t .r .given .1) (t .before .header .ensures) (t .accept .ensures .0) (c .enum-told2 .given .1) in
+    comes-damaged (l .inv .1) g ∙ l .inv .2
 
 digit-requires : tie.Need-digit-requires Inv-loop μ-loop
 digit-requires c κs = search needs
 
 child-requires : tie.Need-child-requires Inv-loop μ-loop
 child-requires c κs =
-    let g = node (c .before .before) in
-    (c .before .before .before .before .before .before .before .before .before .before .loop .inv .0, g .j<, omega (arith, c .digit .ensures))
+    let t = c .before .before .before .before in
+    (at-loop t .loop .inv .0, node (c .before .before) .j<, omega (arith, c .digit .ensures))
 
 add-w : tie.Need-add-w Inv-loop μ-loop
-add-w c = let g = node (c .before .before .before) in omega arith
+add-w c =
+    let g = node (c .before .before .before) in
+    omega arith
 
 add-nodes : tie.Need-add-nodes Inv-loop μ-loop
-add-nodes c = let i = c .before .before .before .before .before .before .before .before .before .before .before .loop .inv .1 in omega arith
+add-nodes c =
+    let i = at-loop (c .before .before .before .before .before) .loop .inv .1 in
+    omega arith
 
 loop-less : tie.Need-loop-less Inv-loop μ-loop
-loop-less c = let g = node (c .before .before .before) in omega arith
+loop-less c =
+    let g = node (c .before .before .before) in
+    omega arith
 
 loop-again : tie.Need-loop-again Inv-loop μ-loop
 loop-again c =
-    let i = c .before .before .before .before .before .before .before .before .before .before .before .loop .inv in
+    let i = at-loop (c .before .before .before .before .before) .loop .inv in
     (i .0, comes-below (i .1) (node (c .before .before .before)) (c .before .digit .ensures) (c .child .ensures), i .2)
 
 pub lookup-spec : {M : Type 1} → statement M

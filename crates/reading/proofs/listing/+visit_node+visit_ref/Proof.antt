@@ -1,38 +1,39 @@
 -- A reference is visited, and a node's sixteen references: the two calls fall with the number of digits left. Assumes nothing.
-use mathlib.Core.Path.{_≡_, refl, sym, ap, _∙_}
+use mathlib.Core.Path.{_≡_, refl, sym, _∙_}
 use mathlib.Core.Logic.{⊎-elim}
 use Prim.Native.Nat.{ℕ, _+_, _-_, _*_, _≤_, _<_}
 use native.Mathlib.Omega.{arith}
 use borrow.Author.Needs.{needs}
+use borrow.Fn.Kinds.{In, Out}
+use borrow.Fn.PlainCycle.{Measures, is, falls, and}
 use lib.ListN.{length}
 use Rattle.digits.specs.Loops.{upto}
-use Rattle.walk.specs.Walks.{isChild}
+use Rattle.walk.specs.Walks.{Between, isChild}
+use Rattle.walk.specs.declared.Head.the-variants.{Branch}
 use Rattle.walk.proofs.Heads.{unmatched}
-use Rattle.reading.specs.Listings.{visit}
+use Rattle.reading.specs.Listings.{visit, nodeOf, visitFrom}
 use Rattle.reading.proofs.Loops.{scan-ge, scan-le}
 use Rattle.reading.proofs.Visits.{low-no-node, visit-over, visit-bad, visit-end, visit-node, kid, kid-end, kid-ref, node-refused, node-childless, node-visits, kids-first, kids-next, kids-over}
-use borrow.Fn.Kinds.{In, Out}
-use Rattle.reading.proofs.listing.visit_end.Kinds as visit-end-kinds
-use Rattle.pool.proofs.reference.Kinds as reference-kinds
-use Rattle.reading.proofs.listing.spoil.Kinds as spoil-kinds
-use Rattle.pool.proofs.header.Kinds as header-kinds
-use Rattle.walk.proofs.accept.Kinds as accept-kinds
-use Rattle.reading.proofs.listing.next_child.Kinds as next-child-kinds
 use Rattle.pool.proofs.child.Kinds as child-kinds
-use borrow.Fn.PlainCycle.{Measures, is, falls, and}
-use Rattle.reading.proofs.listing.visit_node.Reads as visit-node
-use Rattle.reading.proofs.listing.visit_node.Kinds as visit-node-kinds
-use Rattle.reading.proofs.listing.+visit_node+visit_ref.Lts-visit_node as visit-node-lts
-use Rattle.reading.proofs.listing.visit_ref.Reads as visit-ref
-use Rattle.reading.proofs.listing.visit_ref.Kinds as visit-ref-kinds
-use Rattle.reading.proofs.listing.+visit_node+visit_ref.Lts-visit_ref as visit-ref-lts
 use Rattle.pool.proofs.child.Reads as child-reads
+use Rattle.pool.proofs.header.Kinds as header-kinds
 use Rattle.pool.proofs.header.Reads as header-reads
+use Rattle.pool.proofs.reference.Kinds as reference-kinds
 use Rattle.pool.proofs.reference.Reads as reference-reads
-use Rattle.reading.proofs.listing.next_child.Reads as next-child-reads
-use Rattle.reading.proofs.listing.spoil.Reads as spoil-reads
-use Rattle.reading.proofs.listing.visit_end.Reads as visit-end-reads
+use Rattle.walk.proofs.accept.Kinds as accept-kinds
 use Rattle.walk.proofs.accept.Reads as accept-reads
+use Rattle.reading.proofs.listing.next_child.Kinds as next-child-kinds
+use Rattle.reading.proofs.listing.next_child.Reads as next-child-reads
+use Rattle.reading.proofs.listing.spoil.Kinds as spoil-kinds
+use Rattle.reading.proofs.listing.spoil.Reads as spoil-reads
+use Rattle.reading.proofs.listing.visit_end.Kinds as visit-end-kinds
+use Rattle.reading.proofs.listing.visit_end.Reads as visit-end-reads
+use Rattle.reading.proofs.listing.visit_node.Kinds as visit-node-kinds
+use Rattle.reading.proofs.listing.visit_node.Reads as visit-node
+use Rattle.reading.proofs.listing.visit_ref.Kinds as visit-ref-kinds
+use Rattle.reading.proofs.listing.visit_ref.Reads as visit-ref
+use Rattle.reading.proofs.listing.+visit_node+visit_ref.Lts-visit_node as visit-node-lts
+use Rattle.reading.proofs.listing.+visit_node+visit_ref.Lts-visit_ref as visit-ref-lts
 use Rattle.reading.proofs.listing.+visit_node+visit_ref.{statement}
 use Rattle.reading.proofs.listing.+visit_node+visit_ref.Tie.{close}
 
@@ -65,12 +66,58 @@ abbrev visit-node-μ-loop : visit-node-lts.MeasureT-loop
 visit-node-μ-loop pool n from left j keys₀ values₀ b c₀ t₀ keys values c t = 16 - c
 
 -- what the calls of `visit-ref` ask and tell
-abbrev visit-ref-calls : ℕ → In 3 visit-end-kinds.ps × Out 3 visit-end-kinds.ps visit-end-kinds.r × In 0 reference-kinds.ps × Out 0 reference-kinds.ps reference-kinds.r × In 0 spoil-kinds.ps × Out 0 spoil-kinds.ps spoil-kinds.r × In 3 visit-node-kinds.ps × Out 3 visit-node-kinds.ps visit-node-kinds.r
-visit-ref-calls t = (visit-end-reads.Asked, visit-end-reads.Learnt, reference-reads.Asked, reference-reads.Learnt, spoil-reads.Asked, spoil-reads.Learnt, visit-node-below t, visit-node.Post)
+abbrev visit-ref-calls : ℕ
+    → In 3 visit-end-kinds.ps
+    × Out 3 visit-end-kinds.ps visit-end-kinds.r
+    × In 0 reference-kinds.ps
+    × Out 0 reference-kinds.ps reference-kinds.r
+    × In 0 spoil-kinds.ps
+    × Out 0 spoil-kinds.ps spoil-kinds.r
+    × In 3 visit-node-kinds.ps
+    × Out 3 visit-node-kinds.ps visit-node-kinds.r
+visit-ref-calls t = (
+  visit-end-reads.Asked,
+  visit-end-reads.Learnt,
+  reference-reads.Asked,
+  reference-reads.Learnt,
+  spoil-reads.Asked,
+  spoil-reads.Learnt,
+  visit-node-below t,
+  visit-node.Post,
+)
 
 -- what the calls of `visit-node` ask and tell
-abbrev visit-node-calls : ℕ → In 1 header-kinds.ps × Out 1 header-kinds.ps header-kinds.r × In 0 accept-kinds.ps × Out 0 accept-kinds.ps accept-kinds.r × In 0 spoil-kinds.ps × Out 0 spoil-kinds.ps spoil-kinds.r × In 1 next-child-kinds.ps × Out 1 next-child-kinds.ps next-child-kinds.r × In 1 child-kinds.ps × Out 1 child-kinds.ps child-kinds.r × In 3 visit-end-kinds.ps × Out 3 visit-end-kinds.ps visit-end-kinds.r × In 3 visit-ref-kinds.ps × Out 3 visit-ref-kinds.ps visit-ref-kinds.r
-visit-node-calls t = (header-reads.Asked, header-reads.Learnt, accept-reads.Asked, accept-reads.Learnt, spoil-reads.Asked, spoil-reads.Learnt, next-child-reads.Asked, next-child-reads.Learnt, child-reads.Asked, child-reads.Learnt, visit-end-reads.Asked, visit-end-reads.Learnt, visit-ref-below t, visit-ref.Post)
+abbrev visit-node-calls : ℕ
+    → In 1 header-kinds.ps
+    × Out 1 header-kinds.ps header-kinds.r
+    × In 0 accept-kinds.ps
+    × Out 0 accept-kinds.ps accept-kinds.r
+    × In 0 spoil-kinds.ps
+    × Out 0 spoil-kinds.ps spoil-kinds.r
+    × In 1 next-child-kinds.ps
+    × Out 1 next-child-kinds.ps next-child-kinds.r
+    × In 1 child-kinds.ps
+    × Out 1 child-kinds.ps child-kinds.r
+    × In 3 visit-end-kinds.ps
+    × Out 3 visit-end-kinds.ps visit-end-kinds.r
+    × In 3 visit-ref-kinds.ps
+    × Out 3 visit-ref-kinds.ps visit-ref-kinds.r
+visit-node-calls t = (
+  header-reads.Asked,
+  header-reads.Learnt,
+  accept-reads.Asked,
+  accept-reads.Learnt,
+  spoil-reads.Asked,
+  spoil-reads.Learnt,
+  next-child-reads.Asked,
+  next-child-reads.Learnt,
+  child-reads.Asked,
+  child-reads.Learnt,
+  visit-end-reads.Asked,
+  visit-end-reads.Learnt,
+  visit-ref-below t,
+  visit-ref.Post,
+)
 
 visit-node-sub-accept : (t : ℕ) → visit-node-lts.Need-sub-accept (visit-node-calls t) (visit-node-at t) visit-node.Post visit-node-Inv-loop visit-node-μ-loop
 visit-node-sub-accept t c = search needs
@@ -94,7 +141,12 @@ visit-node-returns : (t : ℕ) → visit-node-lts.Need-returns (visit-node-calls
 visit-node-returns t c =
     let h = c .before .before .before in
     let a = h .before .before .before .before .before .args in
-    rw (c .spoil .ensures) (sym (node-refused (a .pool .now) (a .n) (a .from) (a .j) _ (visit _ _ (a .s)) (h .before .header .ensures) (h .accept .ensures .0) (c .before .enum-told .given .1)))
+    let v = visit (a .keys .now) (a .values .now) (a .s) in
+    rw (c .spoil .ensures) (sym (node-refused (a .pool .now) (a .n) (a .from) (a .j) _ v (h .before .header .ensures) (h .accept .ensures .0) (c .before .enum-told .given .1)))
+
+-- an accepted branch place leaves fewer digits
+accepted : (t : ℕ) (c : visit-node-lts.After-b (visit-node-calls t) (visit-node-at t) visit-node.Post visit-node-Inv-loop visit-node-μ-loop) → Between (16 - c .before .before .before .before .before .before .before .args .left) (Branch (c .b .given .0 .0))
+accepted t c = rw (c .b .given .1) at (c .before .before .accept .ensures .1)
 
 visit-node-next-child-requires : (t : ℕ) → visit-node-lts.Need-next-child-requires (visit-node-calls t) (visit-node-at t) visit-node.Post visit-node-Inv-loop visit-node-μ-loop
 visit-node-next-child-requires t c κs = search needs
@@ -106,7 +158,23 @@ visit-node-returns-2 : (t : ℕ) → visit-node-lts.Need-returns-2 (visit-node-c
 visit-node-returns-2 t c =
     let h = c .before .before .before .before .before .before in
     let a = h .before .before .before .before .before .args in
-    rw (c .spoil2 .ensures) (sym (node-childless (a .pool .now) (a .n) (a .from) (a .j) _ (visit _ _ (a .s)) (h .before .header .ensures) (h .accept .ensures .0) (c .before .before .before .before .b .given .1) (c .before .before .next-child .ensures) (c .before .if1 .taken)))
+    let v = visit (a .keys .now) (a .values .now) (a .s) in
+    let q = c .before .before .before .before .b .given .1 in
+    let e = c .before .before .next-child .ensures in
+    rw (c .spoil2 .ensures) (sym (node-childless (a .pool .now) (a .n) (a .from) (a .j) _ v (h .before .header .ensures) (h .accept .ensures .0) q e (omega arith)))
+
+-- a node with a child is visited over its sixteen
+visits : (t : ℕ) (c : visit-node-lts.Else1 (visit-node-calls t) (visit-node-at t) visit-node.Post visit-node-Inv-loop visit-node-μ-loop)
+    → let a = c .before .before .before .before .before .before .before .before .before .before .args in
+    let v = visit (a .keys .now) (a .values .now) (a .s) in
+    nodeOf (visitFrom 17 (a .pool .now) (a .n) (a .from)) (a .pool .now) (a .n) (16 - a .left) (a .j) v
+    ≡ upto 16 (kid (a .pool .now) (a .n) (a .from) (c .before .before .before .b .given .0 .0) (a .j)) v
+visits t c =
+    let a = c .before .before .before .before .before .before .before .before .before .before .args in
+    let h = c .before .before .before .before .before in
+    let v = visit (a .keys .now) (a .values .now) (a .s) in
+    let q = c .before .before .before .b .given .1 in
+    node-visits (a .pool .now) (a .n) (a .from) (a .j) _ v (h .before .header .ensures) (h .accept .ensures .0) q (c .before .next-child .ensures) (omega arith)
 
 visit-node-loop-holds : (t : ℕ) → visit-node-lts.Need-loop-holds (visit-node-calls t) (visit-node-at t) visit-node.Post visit-node-Inv-loop visit-node-μ-loop
 visit-node-loop-holds t c = (omega arith, refl, refl, kids-first _ _ _ _ _ _ (c .before .next-child .ensures))
@@ -122,12 +190,12 @@ visit-node-sub-visit-ref t c = search needs
 
 visit-node-sub-visit-ref-2 : (t : ℕ) → visit-node-lts.Need-sub-visit-ref-2 (visit-node-calls t) (visit-node-at t) visit-node.Post visit-node-Inv-loop visit-node-μ-loop
 visit-node-sub-visit-ref-2 t c =
-    let z = rw (c .before .before .before .before .before .before .before .b .given .1) at (c .before .before .before .before .before .before .before .before .before .accept .ensures .1) in
+    let z = accepted t (c .before .before .before .before .before .before .before) in
     omega arith
 
 visit-node-visit-ref-requires : (t : ℕ) → visit-node-lts.Need-visit-ref-requires (visit-node-calls t) (visit-node-at t) visit-node.Post visit-node-Inv-loop visit-node-μ-loop
 visit-node-visit-ref-requires t c κs =
-    let z = rw (c .before .before .before .before .before .before .before .before .before .b .given .1) at (c .before .before .before .before .before .before .before .before .before .before .before .accept .ensures .1) in
+    let z = accepted t (c .before .before .before .before .before .before .before .before .before) in
     let p = c .before .before .before .before .before .before .before .before .before .before .before .before .before .before .before .before .pre .1 in
     (omega arith, (p .0, search needs, omega arith))
 
@@ -135,12 +203,13 @@ visit-node-visit-ref-requires t c κs =
 visited : (t : ℕ) (c : visit-node-lts.Joined2 (visit-node-calls t) (visit-node-at t) visit-node.Post visit-node-Inv-loop visit-node-μ-loop)
     → let a = c .before .before .before .before .before .before .before .before .before .before .before .before .before .before .args in
     let l = c .before .before .before .loop in
+    let b = c .before .before .before .before .before .before .before .b .given .0 .0 in
     (length (c .if2 .keys) ≡ length (l .keys))
     × (length (c .if2 .values) ≡ length (l .values))
-    × (visit (c .if2 .keys) (c .if2 .values) (c .if2 .t) ≡ kid (a .pool .now) (a .n) (a .from) (c .before .before .before .before .before .before .before .b .given .0 .0) (a .j) (l .c) (visit (l .keys) (l .values) (l .t)))
+    × (visit (c .if2 .keys) (c .if2 .values) (c .if2 .t) ≡ kid (a .pool .now) (a .n) (a .from) b (a .j) (l .c) (visit (l .keys) (l .values) (l .t)))
 visited t c =
     let e = c .before .child .ensures in
-    let z = rw (c .before .before .before .before .before .before .before .b .given .1) at (c .before .before .before .before .before .before .before .before .before .accept .ensures .1) in
+    let z = accepted t (c .before .before .before .before .before .before .before) in
     ⊎-elim
     (λ w. (rw (w .8) (w .4 .given), rw (w .9) (w .6 .given), rw (w .8, w .9, w .10) (kid-end _ _ _ _ _ _ _ e (w .0 .taken) (w .3 .ensures))))
     (λ w. (rw (w .8) (w .4 .given), rw (w .9) (w .6 .given), rw (w .8, w .9, w .10) (kid-ref _ _ _ _ _ _ _ e (z .1) (w .3 .ensures))))
@@ -155,10 +224,10 @@ visit-node-same-length-2 t c = visited t (c .before) .1 ∙ c .before .before .b
 visit-node-returns-3 : (t : ℕ) → visit-node-lts.Need-returns-3 (visit-node-calls t) (visit-node-at t) visit-node.Post visit-node-Inv-loop visit-node-μ-loop
 visit-node-returns-3 t c =
     let l = c .before .before .before .before .loop in
-    let h = c .before .before .before .before .before .before .before .before .before .before in
-    let a = h .before .before .before .before .before .args in
-    kids-over (a .pool .now) (a .n) (a .from) _ (a .j) _ (l .c) (c .before .before .before .loop-test .taken) (l .inv .3) (visited t (c .before) .2) (c .if3 .taken)
-    ∙ sym (node-visits (a .pool .now) (a .n) (a .from) (a .j) _ (visit _ _ (a .s)) (h .before .header .ensures) (h .accept .ensures .0) (c .before .before .before .before .before .before .before .before .b .given .1) (c .before .before .before .before .before .before .next-child .ensures) (c .before .before .before .before .before .if1 .left))
+    let a = c .before .before .before .before .before .before .before .before .before .before .before .before .before .before .before .args in
+    let g = visited t (c .before) .2 in
+    let i = c .before .before .before .loop-test .taken in
+    kids-over (a .pool .now) (a .n) (a .from) _ (a .j) _ (l .c) (l .inv .3) g i (c .if3 .taken) ∙ sym (visits t (c .before .before .before .before .before))
 
 visit-node-add-next-child : (t : ℕ) → visit-node-lts.Need-add-next-child (visit-node-calls t) (visit-node-at t) visit-node.Post visit-node-Inv-loop visit-node-μ-loop
 visit-node-add-next-child t c = search needs
@@ -180,7 +249,7 @@ visit-node-loop-again t c =
       omega (arith, c .next-child2 .ensures, scan-le (isChild (a .pool .now) (a .n) (a .j)) (16 - (l .c + 1)) (l .c + 1)),
       g .0 ∙ l .inv .1,
       g .1 ∙ l .inv .2,
-      kids-next (a .pool .now) (a .n) (a .from) _ (a .j) _ (l .c) (c .before .before .before .before .loop-test .taken) (l .inv .3) (g .2) (c .next-child2 .ensures),
+      kids-next (a .pool .now) (a .n) (a .from) _ (a .j) _ (l .c) (l .inv .3) (g .2) (c .next-child2 .ensures),
     )
 
 visit-node-same-length-3 : (t : ℕ) → visit-node-lts.Need-same-length-3 (visit-node-calls t) (visit-node-at t) visit-node.Post visit-node-Inv-loop visit-node-μ-loop
@@ -191,11 +260,8 @@ visit-node-same-length-4 t c = search needs
 
 visit-node-returns-4 : (t : ℕ) → visit-node-lts.Need-returns-4 (visit-node-calls t) (visit-node-at t) visit-node.Post visit-node-Inv-loop visit-node-μ-loop
 visit-node-returns-4 t c =
-    let l = c .before .loop in
-    let h = c .before .before .before .before .before .before .before in
-    let a = h .before .before .before .before .before .args in
-    let e : l .c ≡ 16 = omega arith in
-    (rw e at (l .inv .3)) ∙ sym (node-visits (a .pool .now) (a .n) (a .from) (a .j) _ (visit _ _ (a .s)) (h .before .header .ensures) (h .accept .ensures .0) (c .before .before .before .before .before .b .given .1) (c .before .before .before .next-child .ensures) (c .before .before .if1 .left))
+    let e : c .before .loop .c ≡ 16 = omega arith in
+    (rw e at (c .before .loop .inv .3)) ∙ sym (visits t (c .before .before))
 
 visit-ref-visit-end-requires : (t : ℕ) → visit-ref-lts.Need-visit-end-requires (visit-ref-calls t) (visit-ref-at t) visit-ref.Post
 visit-ref-visit-end-requires t c κs = search needs
@@ -207,7 +273,9 @@ visit-ref-same-length-2 : (t : ℕ) → visit-ref-lts.Need-same-length-2 (visit-
 visit-ref-same-length-2 t c = search needs
 
 visit-ref-returns : (t : ℕ) → visit-ref-lts.Need-returns (visit-ref-calls t) (visit-ref-at t) visit-ref.Post
-visit-ref-returns t c = c .before .before .before .before .visit-end .ensures ∙ visit-end _ _ _ 0 17 16 _ _ _ (low-no-node _ _ (c .before .before .before .before .before .before .before .if1 .taken))
+visit-ref-returns t c =
+    let h = low-no-node _ _ (c .before .before .before .before .before .before .before .if1 .taken) in
+    c .before .before .before .before .visit-end .ensures ∙ visit-end _ _ _ 0 17 16 _ _ _ h
 
 visit-ref-returns-2 : (t : ℕ) → visit-ref-lts.Need-returns-2 (visit-ref-calls t) (visit-ref-at t) visit-ref.Post
 visit-ref-returns-2 t c = sym (visit-over _ _ _ 17 _ _ (c .if2 .taken))
@@ -224,7 +292,8 @@ visit-ref-spoil-requires t c κs = search needs
 visit-ref-returns-3 : (t : ℕ) → visit-ref-lts.Need-returns-3 (visit-ref-calls t) (visit-ref-at t) visit-ref.Post
 visit-ref-returns-3 t c =
     let r = c .before .before in
-    rw (c .spoil .ensures) (sym (visit-bad _ _ _ 17 _ _ _ (r .before .if2 .left) (r .before .before .if1 .left) (r .reference .ensures .0) (unmatched (r .reference .result) (c .before .match .keys2))))
+    let h = unmatched (r .reference .result) (c .before .match .keys2) in
+    rw (c .spoil .ensures) (sym (visit-bad _ _ _ 17 _ _ _ (r .before .if2 .left) (r .before .before .if1 .left) (r .reference .ensures .0) h))
 
 visit-ref-visit-node-requires : (t : ℕ) → visit-ref-lts.Need-visit-node-requires (visit-ref-calls t) (visit-ref-at t) visit-ref.Post
 visit-ref-visit-node-requires t c κs =
@@ -275,16 +344,7 @@ pub +visit-node+visit-ref-spec : {M : Type 1} → statement M
     (visit-node-same-length-3 t)
     (visit-node-same-length-4 t)
     (visit-node-returns-4 t))
-    λ t. visit-ref-lts.spec (
-      visit-end-reads.Asked,
-      visit-end-reads.Learnt,
-      reference-reads.Asked,
-      reference-reads.Learnt,
-      spoil-reads.Asked,
-      spoil-reads.Learnt,
-      visit-node-below t,
-      visit-node.Post,
-    )
+    λ t. visit-ref-lts.spec (visit-ref-calls t)
     (visit-ref-at t)
     visit-ref.Post
     (visit-ref-visit-end-requires t)

@@ -1,12 +1,12 @@
 -- `clear` makes every entry 0, from the first on. Assumes nothing.
-use borrow.Author.Needs.{needs}
-use native.Mathlib.Omega.{arith}
-use Prim.Native.Nat.{ℕ, _≤_, _-_, _+_}
-use mathlib.Core.Path.{_≡_, refl, sym, ap, _∙_}
+use mathlib.Core.Path.{_≡_, _∙_}
 use mathlib.Core.List.{_++_, append-nil}
-use lib.Seq.{drop-length}
-use lib.ListN.{length, drop, replicate, length-set}
+use Prim.Native.Nat.{_-_, _≤_}
+use native.Mathlib.Omega.{arith}
 use borrow.Author.Fill.{fill-more}
+use borrow.Author.Needs.{needs}
+use lib.ListN.{length, drop, replicate, length-set}
+use lib.Seq.{drop-length}
 use Rattle.reading.proofs.listing.clear.Statement.{statement}
 use Rattle.reading.proofs.listing.clear.Tie as tie
 

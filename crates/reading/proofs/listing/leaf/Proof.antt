@@ -12,19 +12,25 @@ returns : tie.Need-returns
 unfolding leafOf
 returns c = simp (le-leb _ _ (c .before .if1 .taken), c .spoil .ensures)
 
-add-t11 : tie.Need-add-t11
-add-t11 c = search needs
+add-new : tie.Need-add-new
+add-new c = search needs
+
+new-requires : tie.Need-new-requires
+new-requires c κs = search needs
 
 returns-2 : tie.Need-returns-2
 unfolding leafOf
-returns-2 c = simp (lt-leb _ _ (c .before .if1 .left), lt-ltb _ _ (c .if2 .taken))
+returns-2 c = simp (lt-leb _ _ (c .before .before .if1 .left), lt-ltb _ _ (c .before .if2 .taken), c .new .ensures)
 
-add-t13 : tie.Need-add-t13
-add-t13 c = search needs
+add-new-2 : tie.Need-add-new-2
+add-new-2 c = search needs
+
+new-requires-2 : tie.Need-new-requires-2
+new-requires-2 c κs = search needs
 
 returns-3 : tie.Need-returns-3
 unfolding leafOf
-returns-3 c = simp (lt-leb _ _ (c .before .before .if1 .left), le-ltb _ _ (c .before .if2 .left), le-leb _ _ (c .if3 .taken))
+returns-3 c = simp (lt-leb _ _ (c .before .before .before .if1 .left), le-ltb _ _ (c .before .before .if2 .left), le-leb _ _ (c .before .if3 .taken), c .new2 .ensures)
 
 mul-keys : tie.Need-mul-keys
 mul-keys c = search needs
@@ -38,11 +44,14 @@ mul-values c = search needs
 slice-write-values : tie.Need-slice-write-values
 slice-write-values c = search needs
 
-add-t12 : tie.Need-add-t12
-add-t12 c = search needs
+add-new-3 : tie.Need-add-new-3
+add-new-3 c = search needs
 
-add-t16 : tie.Need-add-t16
-add-t16 c = search needs
+add-new-4 : tie.Need-add-new-4
+add-new-4 c = search needs
+
+new-requires-3 : tie.Need-new-requires-3
+new-requires-3 c κs = search needs
 
 same-length : tie.Need-same-length
 same-length c = search needs
@@ -52,7 +61,7 @@ same-length-2 c = search needs
 
 returns-4 : tie.Need-returns-4
 unfolding leafOf
-returns-4 c = simp (lt-leb _ _ (c .before .before .if1 .left), le-ltb _ _ (c .before .if2 .left), lt-leb _ _ (c .if3 .left))
+returns-4 c = simp (lt-leb _ _ (c .before .before .before .if1 .left), le-ltb _ _ (c .before .before .if2 .left), lt-leb _ _ (c .before .if3 .left), c .new3 .ensures)
 
 pub leaf-spec : {M : Type 1} → statement M
 leaf-spec =
@@ -60,16 +69,19 @@ leaf-spec =
     (tie.spec
     spoil-requires
     returns
-    add-t11
+    add-new
+    new-requires
     returns-2
-    add-t13
+    add-new-2
+    new-requires-2
     returns-3
     mul-keys
     slice-write-keys
     mul-values
     slice-write-values
-    add-t12
-    add-t16
+    add-new-3
+    add-new-4
+    new-requires-3
     same-length
     same-length-2
     returns-4)

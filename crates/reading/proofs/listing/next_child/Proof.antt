@@ -1,20 +1,20 @@
--- `next_child` is a scan of the places that are left. Assumes nothing.
-use mathlib.Core.Path.{_≡_, refl, sym, _∙_}
+-- `next_child` scans: the scan from here on finds what the whole scan finds. Assumes nothing.
+use mathlib.Core.Path.{_≡_, refl, _∙_}
 use Prim.Native.Nat.{_-_}
 use native.Mathlib.Omega.{arith}
 use borrow.Author.Needs.{needs}
 use Rattle.digits.specs.Loops.{scan}
 use Rattle.walk.specs.Walks.{isChild}
-use Rattle.walk.proofs.Loops.{scan-here, scan-next, scan-none}
-use Rattle.walk.proofs.Nodes.{is-child, no-child}
+use Rattle.walk.proofs.Loops.{scan-none}
+use Rattle.walk.proofs.Nodes.{lowest-here, lowest-later}
 use Rattle.reading.proofs.listing.next_child.Statement.{statement}
 use Rattle.reading.proofs.listing.next_child.Tie as tie
 
 abbrev Inv-loop : tie.InvT-loop
-Inv-loop pool n j at c₀ c = scan (16 - c) c (isChild pool n j) ≡ scan (16 - at) at (isChild pool n j)
+Inv-loop pool n j at next₀ next = scan (16 - next) next (isChild pool n j) ≡ scan (16 - at) at (isChild pool n j)
 
 abbrev μ-loop : tie.MeasureT-loop
-μ-loop pool n j at c₀ c = 16 - c
+μ-loop pool n j at next₀ next = 16 - next
 
 loop-holds : tie.Need-loop-holds Inv-loop μ-loop
 loop-holds c = refl
@@ -25,11 +25,10 @@ child-requires c κs = search needs
 returns : tie.Need-returns Inv-loop μ-loop
 returns c =
     let a = c .before .before .before .before .before .args in
-    let l = c .before .before .before .loop in
-    scan-here _ _ _ (is-child (a .pool .now) (a .n) (a .j) (l .c) (c .before .child .ensures) (c .if1 .taken)) ∙ l .inv
+    lowest-here (a .pool .now) (a .n) (a .j) _ (c .before .child .ensures) (c .if1 .taken) ∙ c .before .before .before .loop .inv
 
-add-c : tie.Need-add-c Inv-loop μ-loop
-add-c c = search needs
+add-next : tie.Need-add-next Inv-loop μ-loop
+add-next c = search needs
 
 loop-less : tie.Need-loop-less Inv-loop μ-loop
 loop-less c = search needs
@@ -37,8 +36,7 @@ loop-less c = search needs
 loop-again : tie.Need-loop-again Inv-loop μ-loop
 loop-again c =
     let a = c .before .before .before .before .before .args in
-    let l = c .before .before .before .loop in
-    sym (scan-next _ 16 (l .c) (search needs) (no-child (a .pool .now) (a .n) (a .j) (l .c) (c .before .child .ensures) (c .if1 .left))) ∙ l .inv
+    lowest-later (a .pool .now) (a .n) (a .j) _ (c .before .child .ensures) (search needs) (c .if1 .left) ∙ c .before .before .before .loop .inv
 
 returns-2 : tie.Need-returns-2 Inv-loop μ-loop
 returns-2 c = scan-none _ _ _ (omega arith) ∙ c .before .loop .inv
@@ -52,7 +50,7 @@ next-child-spec =
     loop-holds
     child-requires
     returns
-    add-c
+    add-next
     loop-less
     loop-again
     returns-2)

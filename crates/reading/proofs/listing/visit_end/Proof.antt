@@ -18,10 +18,14 @@ enum-known-i : tie.Need-enum-known-i
 enum-known-i c = search needs
 
 leaf-key-requires : tie.Need-leaf-key-requires
-leaf-key-requires c κs = (c .before .before .before .before .before .before .before .before .before .before .pre .0, rw (c .before .before .before .i .given .1) at (c .before .before .before .before .before .reference .ensures .1))
+leaf-key-requires c κs =
+    let r = c .before .before .before .before .before in
+    (r .before .before .before .before .before .pre .0, rw (c .before .before .before .i .given .1) at (r .reference .ensures .1))
 
 leaf-value-requires : tie.Need-leaf-value-requires
-leaf-value-requires c κs = (c .before .before .before .before .before .before .before .before .before .before .before .pre .0, rw (c .before .before .before .before .i .given .1) at (c .before .before .before .before .before .before .reference .ensures .1))
+leaf-value-requires c κs =
+    let r = c .before .before .before .before .before .before in
+    (r .before .before .before .before .before .pre .0, rw (c .before .before .before .before .i .given .1) at (r .reference .ensures .1))
 
 leaf-requires : tie.Need-leaf-requires
 leaf-requires c κs = search needs
@@ -39,7 +43,9 @@ spoil-requires-2 : tie.Need-spoil-requires-2
 spoil-requires-2 c κs = search needs
 
 returns-2 : tie.Need-returns-2
-returns-2 c = sym (visit-on _ _ _ 0 16 _ _ (c .before .before .before .if1 .left) (c .before .before .reference .ensures .0) (c .enum-told .given .1))
+returns-2 c =
+    let r = c .before .before in
+    sym (visit-on _ _ _ 0 16 _ _ (r .before .if1 .left) (r .reference .ensures .0) (c .enum-told .given .1))
 
 same-length : tie.Need-same-length
 same-length c = search needs
@@ -50,8 +56,10 @@ same-length-2 c = search needs
 returns-3 : tie.Need-returns-3
 returns-3 c =
     let t = c .before .before .before .before in
-    let r = t .before .before .before .before .before .before .before .before in
-    (rw (t .before .before .leaf-key .ensures, t .before .leaf-value .ensures) at (t .leaf .ensures)) ∙ sym (visit-on _ _ _ 0 16 _ _ (r .before .if1 .left) (r .reference .ensures .0) (t .before .before .before .before .before .before .i .given .1))
+    let i = t .before .before .before .before .before .before in
+    let r = i .before .before in
+    let g = rw (t .before .before .leaf-key .ensures, t .before .leaf-value .ensures) at (t .leaf .ensures) in
+    g ∙ sym (visit-on _ _ _ 0 16 _ _ (r .before .if1 .left) (r .reference .ensures .0) (i .i .given .1))
 
 returns-4 : tie.Need-returns-4
 returns-4 c =

@@ -1,0 +1,138 @@
+-- Demand 3 holds, for stores that reach memory in order and for any cut that keeps the store that counts in its place.
+-- Assumes nothing.
+use mathlib.Core.Path.{_≡_, refl, sym, ap, _∙_, subst}
+use mathlib.Core.Bool.{Bool}
+use mathlib.Core.Option.{Option, none, some}
+use mathlib.Core.List.{List, [], _∷_, _++_}
+use Prim.Native.Nat.{ℕ, _+_, _-_, _*_, _≤_, _<_}
+use native.Mathlib.Omega.{arith}
+use borrow.Author.Tests.{eq-eqb, ne-eqb}
+use lib.ListN.{length, set, replicate, length-set, length-append, length-replicate, getD-replicate}
+use lib.Seq.{getD-set-same, getD-set-other}
+use Rattle.pool.specs.Sizes.{sizeOf, bytesOf, Sized, Measured}
+use Rattle.pool.specs.declared.Size.{Size}
+use Rattle.pool.specs.declared.Size.the-variants.{Holds, Wrong}
+use Rattle.pool.proofs.Sizes.{size-fits}
+use Rattle.tree.specs.Tree.{empty, mult, find}
+use Rattle.tree.specs.Stores.{Store}
+use Rattle.tree.proofs.Basics.{Same?, same, other, same?}
+use Rattle.layout.proofs.Held.{held-empty}
+use Rattle.plan.specs.Plans.{Decided}
+use Rattle.held.specs.Ways.{dig, mem}
+use Rattle.held.specs.Maps.{Marked}
+use Rattle.writing.specs.Calls.{formatOf, formatIn}
+use Rattle.writing.proofs.Wholes.{size-same}
+use Rattle.opening.specs.Openings.{Left, openOf, openSteps}
+use Rattle.opening.proofs.HeldOpens.{steps-pool, open-is, all-mended, reached-marked}
+use Rattle.demands.specs.Tables.{Table, blank}
+use Rattle.demands.specs.Demand3.{Op, Cut, planned, InOrder, Loosely, Reach, fresh, done, refused, cut, lost, reopening, opened, Promised, Demand3}
+use Rattle.demands.proofs.States.{State}
+use Rattle.demands.proofs.Readings.{state-reads, state-reading, state-capacity}
+use Rattle.demands.proofs.Operations.{turns, done-state, refused-state, cut-state, in-order-loosely}
+
+-- ---- a freshly formatted pool
+module _ (n : ℕ) (pool map : List ℕ) (sized : Sized pool n) (bytes : length map ≡ bytesOf n) where
+  blank-state : State n (set (set pool 1 0) 0 n) (some (replicate (length map) 0)) blank
+  unfolding find mult
+  blank-state = record {
+    pos = sized .some;
+    cap = sized .most;
+    t = empty;
+    holds = record {
+      size = omega (arith, length-set (set pool 1 0) 0 n, length-set pool 1 0, sized .words);
+      first = getD-set-same (set pool 1 0) 0 n 0 (omega (arith, length-set pool 1 0, sized .words, sized .some));
+      held = held-empty 16 n (mem (set (set pool 1 0) 0 n))
+          (getD-set-other (set pool 1 0) 0 1 n 0 (λ z. omega arith) ∙ getD-set-same pool 1 0 0 (omega (arith, sized .words, sized .some)));
+    };
+    table = λ k. refl;
+    names = λ k v e. let z : _≡_ {A = ℕ} 0 1 = cc in absurd (omega arith);
+    marks = λ b e. subst (λ (l : List ℕ). Marked n l empty) (some-is e) (record {
+      size = length-replicate {A = ℕ} (length map) 0 ∙ bytes;
+      free = λ x l z. refl;
+      taken = λ x l z. getD-replicate {A = ℕ} (length map) x 0 0 (omega (arith, bytes));
+    });
+  }
+    where
+      some-is : {x y : List ℕ} → some x ≡ some y → x ≡ y
+      some-is e = cc
+
+fresh-state : (n : ℕ) (pool map : List ℕ) → formatOf pool map n .number ≡ 0 → State n (formatOf pool map n .pool) (some (formatOf pool map n .map)) blank
+unfolding formatOf
+fresh-state n pool map z = go (sizeOf (length pool) n) refl (size-fits pool n) z
+  where
+    go : (s : Size) → s ≡ sizeOf (length pool) n → Measured pool s → formatIn pool map s .number ≡ 0 → State n (formatIn pool map s .pool) (some (formatIn pool map s .map)) blank
+    go (Holds m) e sized z = mapped (same? (length map) (bytesOf m))
+      where
+        mapped : Same? (length map) (bytesOf m) → State n (formatIn pool map (Holds m) .pool) (some (formatIn pool map (Holds m) .map)) blank
+        mapped (same b q) = rw q (subst (λ (i : ℕ). State i (set (set pool 1 0) 0 m) (some (replicate (length map) 0)) blank) (size-same (length pool) n m e) (blank-state m pool map sized b))
+        mapped (other b q) = absurd (omega (arith, rw q at z))
+    go Wrong e sized z = absurd (omega (arith, z))
+
+-- ---- a map that is lost, and openings
+module _ {n : ℕ} {pool : List ℕ} {T : Table} where
+  unmapped : {map : Option (List ℕ)} → State n pool map T → State n pool none T
+  unmapped S = record {
+    pos = S .pos;
+    cap = S .cap;
+    t = S .t;
+    holds = S .holds;
+    table = S .table;
+    names = S .names;
+    marks = λ b e. let z : _≡_ {A = ℕ} 0 1 = cc in absurd (omega arith);
+  }
+
+  reopened : State n pool none T → (k : ℕ) → State n (openSteps k pool) none T
+  reopened S k = record {
+    pos = S .pos;
+    cap = S .cap;
+    t = S .t;
+    holds = steps-pool n (S .pos) (S .cap) (S .t) k pool (S .holds);
+    table = S .table;
+    names = S .names;
+    marks = S .marks;
+  }
+
+  open-state : State n pool none T → (bytes : List ℕ) → length bytes ≡ bytesOf n → State n (openOf pool bytes .pool) (some (openOf pool bytes .map)) T
+  open-state S bytes e = rw (open-is n (S .pos) (S .cap) (S .t) pool (S .holds) bytes e) (record {
+    pos = S .pos;
+    cap = S .cap;
+    t = S .t;
+    holds = all-mended n (S .pos) (S .cap) (S .t) pool (S .holds) .pool;
+    table = S .table;
+    names = S .names;
+    marks = λ b q. subst (λ (l : List ℕ). Marked n l (S .t)) (some-is q) (reached-marked n (S .pos) (S .cap) (S .t) pool (S .holds));
+  })
+    where
+      some-is : {x y : List ℕ} → some x ≡ some y → x ≡ y
+      some-is e = cc
+
+-- ---- every state that is reached
+module _ (C : Cut) (within : (o : Op) (σ τ : List Store) (b : Bool) → 0 < length σ → C o σ τ b → Loosely o σ τ b) where
+  stores-some : {n : ℕ} {pool map : List ℕ} {T : Table} (S : State n pool (some map) T) (o : Op) → planned o pool map .number ≡ 0 → 0 < length (planned o pool map .stores)
+  stores-some S o z =
+      let U = turns S o z in
+      rw (U .plan) (omega (arith, length-append (U .before) (U .switch ∷ U .rest)))
+
+  pub reach-state : {n : ℕ} {pool : List ℕ} {map : Option (List ℕ)} {T : Table} → Reach C n pool map T → State n pool map T
+  reach-state {n = n} (fresh pool map z) = fresh-state n pool map z
+  reach-state (done o r z) = done-state (reach-state r) o z
+  reach-state (refused o r z) = refused-state (reach-state r) o z
+  reach-state (cut {pool = pool} {map = map} o {τ = τ} {b = b} r z c) = let S = reach-state r in cut-state S o z (within o (planned o pool map .stores) τ b (stores-some S o z) c)
+  reach-state (lost r) = let S = reach-state r in unmapped S
+  reach-state {n = n} (reopening {pool = pool} k r) = let S = reach-state r in reopened S k
+  reach-state {n = n} (opened {pool = pool} bytes r e) = let S = reach-state r in open-state S bytes e
+
+  pub demand3-of : Demand3 C
+  demand3-of n pool map T r =
+      let S = reach-state r in
+      record {
+        reads = state-reads S;
+        opens = λ bytes e. ap (λ (l : Left). l .answer .number) (open-is n (S .pos) (S .cap) (S .t) pool (S .holds) bytes e);
+        room = λ bytes e. let S′ = subst (λ (m : Option (List ℕ)). State n pool m T) e S in (state-reading S′, state-capacity S′ (state-reading S′ .sound));
+      }
+
+pub demand3-in-order : Demand3 InOrder
+demand3-in-order = demand3-of InOrder (λ o σ τ b. in-order-loosely)
+
+pub demand3-loosely : Demand3 Loosely
+demand3-loosely = demand3-of Loosely (λ o σ τ b many c. c)
