@@ -16,6 +16,8 @@ if ! rt fmt --check; then
 fi
 part "crates listed"
 tools/listed.sh
+part "documents"
+tools/docs-check.py
 part "proofs, must-fail edits and programs"
 mkdir -p build
 status=0
