@@ -21,7 +21,9 @@ use Rattle.walk.specs.declared.Lowest.the-variants.{Key, NoKey}
 use Rattle.plan.specs.Plans.{made, Decided, decided, refused}
 use Rattle.plan.specs.declared.Effect.the-variants.{Nothing}
 use Rattle.opening.specs.Surveys.{Survey, surveyOf}
-use Rattle.opening.specs.declared.Opened.{Opened}
+use Rattle.opening.specs.declared.mending.Opened.{Opened}
+use Rattle.opening.specs.declared.mending.Fresh.{Fresh}
+use Rattle.opening.specs.declared.mending.Fresh.the-variants.{Header, NoHeader}
 
 -- the walk depth that a mark says
 abbrev pub depthMarked : List ℕ → ℕ → ℕ → ℕ
@@ -42,6 +44,11 @@ mendAt pool n w j Unaccepted = []
 
 abbrev pub mendOf : List ℕ → ℕ → ℕ → ℕ → List Store
 mendOf pool n w j = mendAt pool n w j (headOf w (headerAt pool n j))
+
+-- the stores of the code's answer for node j
+abbrev pub freshStores : ℕ → ℕ → Fresh → List Store
+freshStores n j (Header word) = record { word = nodeWord n j; value = word } ∷ []
+freshStores n j NoHeader = []
 
 -- "A planning call answers the first such store as a plan, or a plan of none": "lower-numbered nodes first"
 abbrev pub firstStale : List ℕ → ℕ → List ℕ → ℕ

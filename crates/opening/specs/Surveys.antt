@@ -1,5 +1,6 @@
 -- The survey of a whole pool: whether all that is reached from the root is sound, and what is reached. It goes as a listing's visit goes.
 -- Assumes nothing.
+use mathlib.Core.Path.{_≡_}
 use mathlib.Core.Bool.{Bool, true, false}
 use mathlib.Core.List.{List}
 use Prim.Native.Nat.{ℕ, zero, suc, _+_, _-_, _<_}
@@ -17,8 +18,8 @@ use Rattle.pool.specs.declared.Ref.the-variants.{Empty, Leaf, Node, Bad}
 use Rattle.walk.specs.Walks.{headOf, childrenOf}
 use Rattle.walk.specs.declared.Head.{Head}
 use Rattle.walk.specs.declared.Head.the-variants.{Branch, Wrong}
-use Rattle.opening.specs.declared.Census.{Census}
-use Rattle.opening.specs.declared.Gather.{Gather}
+use Rattle.opening.specs.declared.surveying.Census.{Census}
+use Rattle.opening.specs.declared.surveying.Gather.{Gather}
 
 -- the marks, a byte for each slot (0 where it is not reached, 1 for a leaf, 1 + w for a node met at walk depth w), and the census: the last
 -- key met, and whether all is sound so far
@@ -115,10 +116,17 @@ surveyFrom (suc more) pool n w r v =
 unfoldable pub surveyOf : List ℕ → ℕ → Survey
 surveyOf pool n = surveyFrom 17 pool n 0 (wordAt pool 1) (survey (replicate (bytesOf n) 0) (census 0 true))
 
--- the marks, and whether all is sound
-pub record Surveyed : Type 0 where
-  pub marks : List ℕ
-  pub sound : Bool
+-- what the code's survey v has to do with the definition's u: both have met damage, or they are the same. Damage refuses the whole pool, so
+-- what was marked before it is not seen.
+pub record Alike (v u : Survey) : Type 0 where
+  pub sound : v .census .sound ≡ u .census .sound
+  pub same : u .census .sound ≡ true → v ≡ u
 
-abbrev pub surveyed : List ℕ → Bool → Surveyed
-surveyed m s = record { marks = m; sound = s }
+-- with these marks, all sound so far and whatever key was met last, f comes to v
+abbrev pub Gives : (Survey → Survey) → List ℕ → Survey → Type 0
+Gives f marks v = (k : ℕ) → Alike v (f (survey marks (census k true)))
+
+-- what the code keeps of the survey u of a whole pool
+pub record Found (marks : List ℕ) (sound : Bool) (u : Survey) : Type 0 where
+  pub judged : sound ≡ u .census .sound
+  pub marked : u .census .sound ≡ true → marks ≡ u .marks

@@ -1,5 +1,6 @@
 // Opening a pool: judge the whole of it, mend the stale headers, mark what is reached.
 mod mending;
+mod packing;
 mod surveying;
 
 pub use mending::Opened;

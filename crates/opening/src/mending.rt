@@ -1,15 +1,15 @@
 // Opening: the planning call, which answers the first store, and the whole call, which makes them all.
 ghost use mathlib.Core.Path.{_≡_};
+ghost use mathlib.Core.List.{[], _∷_, map as mapped};
 ghost use Prim.Native.Nat.{ℕ, _+_, _-_, _*_, _<_, _≤_};
 ghost use lib.ListN.{length, getD, replicate};
-ghost use mathlib.Core.List.{map as mapped};
+ghost use Rattle.tree.specs.Stores.{Store};
 ghost use Rattle.pool.specs.Sizes.{Sized, bytesOf};
 ghost use Rattle.plan.specs.Plans.{planOf, plannedOf};
-ghost use Rattle.plan.specs.declared.Effect.the-variants.{Nothing};
-ghost use Rattle.opening.specs.Surveys.{surveyed, surveyOf};
-ghost use Rattle.opening.specs.Openings.{depthMarked, stale, mendOf, mendFirst, openJudged, openPlan, mends, mendNode, mended, reached, keysOf, opened, left, openOf};
-use crate::surveying::Census;
-use crate::surveying::survey_ref;
+ghost use Rattle.opening.specs.Surveys.{surveyOf};
+ghost use Rattle.opening.specs.Openings.{depthMarked, stale, mendOf, freshStores, mendFirst, openJudged, openPlan, mends, mendNode, mended, reached, keysOf, opened, left, openOf};
+use crate::packing::pack;
+use crate::surveying::survey;
 use digits::Header;
 use plan::Effect;
 use plan::Plan;
@@ -25,9 +25,15 @@ pub struct Opened {
     pub headers: usize,
 }
 
+// The header that a stale node is to have, or none.
+pub enum Fresh {
+    Header(u64),
+    NoHeader,
+}
+
 // Whether node j is stale: its header's depth is above the walk depth that its mark says.
 fn is_stale(pool: &[u64], n: usize, map: &[u8], j: usize) -> bool
-    requires { ⌜ Sized (now pool) n × (bytesOf n ≤ length (now map)) × (j + 1 < n) ⌝ }
+    requires { ⌜ Sized (now pool) n × (length (now map) ≡ bytesOf n) × (j + 1 < n) ⌝ }
     ensures { λ r. ⌜ r ≡ stale (now (pool .entry)) n (now (map .entry)) j ⌝ }
 {
     let mark = map[n + j] as usize;
@@ -37,21 +43,37 @@ fn is_stale(pool: &[u64], n: usize, map: &[u8], j: usize) -> bool
     mark - 1 < Header::unpack(pool::header(pool, n, j)).depth
 }
 
-// The store that mends node j, met at walk depth w, as a plan.
-fn mend_plan(pool: &[u64], n: usize, w: usize, j: usize) -> Plan
+// The walk depth that the mark of node j says.
+fn marked_depth(map: &[u8], n: usize, j: usize) -> usize
+    requires { ⌜ (length (now map) ≡ bytesOf n) × (j + 1 < n) × (n ≤ 1024) ⌝ }
+    ensures { λ r. ⌜ r ≡ depthMarked (now (map .entry)) n j ⌝ }
+{
+    let mark = map[n + j] as usize;
+    if mark == 0 { 0 } else { mark - 1 }
+}
+
+// The header that mends node j, met at walk depth w: the same branch place, digits from w of the keys below.
+fn fresh_header(pool: &[u64], n: usize, w: usize, j: usize) -> Fresh
     requires { ⌜ Sized (now pool) n × (j + 1 < n) ⌝ }
-    ensures { λ r. ⌜ r ≡ planOf (mendOf (now (pool .entry)) n w j) Nothing ⌝ }
+    ensures { λ r. ⌜ freshStores n j r ≡ mendOf (now (pool .entry)) n w j ⌝ }
 {
     let Head::Branch(b) = walk::accept(w, pool::header(pool, n, j)) else {
-        return Plan::none();
+        return Fresh::NoHeader;
     };
     let Lowest::Key(near) = walk::lowest_leaf(pool, n, w, pool::node_ref(j)) else {
-        return Plan::none();
+        return Fresh::NoHeader;
     };
+    Fresh::Header(pack(w, b - w, near))
+}
+
+// A plan of one store.
+fn plan_of_one(word: usize, value: u64) -> Plan
+    ensures { λ r. ⌜ r ≡ planOf (record { word = word; value = value } ∷ []) Effect.Nothing ⌝ }
+{
     let mut words = [0usize; 21];
     let mut values = [0u64; 21];
-    words[0] = pool::node_word(n, j);
-    values[0] = Header::pack(w, b - w, near);
+    words[0] = word;
+    values[0] = value;
     Plan {
         words,
         values,
@@ -60,19 +82,21 @@ fn mend_plan(pool: &[u64], n: usize, w: usize, j: usize) -> Plan
     }
 }
 
-// The walk depth that the mark of node j says.
-fn marked_depth(map: &[u8], n: usize, j: usize) -> usize
-    requires { ⌜ (bytesOf n ≤ length (now map)) × (j + 1 < n) × (n ≤ 1024) ⌝ }
-    ensures { λ r. ⌜ r ≡ depthMarked (now (map .entry)) n j ⌝ }
+// The store that mends node j, met at walk depth w, as a plan.
+fn mend_plan(pool: &[u64], n: usize, w: usize, j: usize) -> Plan
+    requires { ⌜ Sized (now pool) n × (j + 1 < n) ⌝ }
+    ensures { λ r. ⌜ r ≡ planOf (mendOf (now (pool .entry)) n w j) Effect.Nothing ⌝ }
 {
-    let mark = map[n + j] as usize;
-    if mark == 0 { 0 } else { mark - 1 }
+    let Fresh::Header(word) = fresh_header(pool, n, w, j) else {
+        return Plan::none();
+    };
+    plan_of_one(pool::node_word(n, j), word)
 }
 
 // The store of the lowest-numbered stale node, as a plan, or a plan of none.
 fn mend_first(pool: &[u64], n: usize, map: &[u8]) -> Plan
     requires { ⌜ Sized (now pool) n × (length (now map) ≡ bytesOf n) ⌝ }
-    ensures { λ r. ⌜ r ≡ planOf (mendFirst (now (pool .entry)) n (now (map .entry))) Nothing ⌝ }
+    ensures { λ r. ⌜ r ≡ planOf (mendFirst (now (pool .entry)) n (now (map .entry))) Effect.Nothing ⌝ }
 {
     let mut j: usize = 0;
     while j + 1 < n {
@@ -84,20 +108,7 @@ fn mend_first(pool: &[u64], n: usize, map: &[u8]) -> Plan
     Plan::none()
 }
 
-// Surveys the pool into a map that is all 0.
-fn survey(pool: &[u64], n: usize, map: &mut [u8]) -> bool
-    requires { ⌜ Sized (now pool) n × (now map ≡ replicate (bytesOf n) 0) ⌝ }
-    ensures { λ r. ⌜ surveyed (now (map .exit)) r ≡ surveyed (surveyOf (now (pool .entry)) n .marks) (surveyOf (now (pool .entry)) n .census .sound) ⌝ }
-{
-    let start = Census {
-        last: 0,
-        sound: true,
-    };
-    let s = survey_ref(pool, n, Header::DIGITS, pool[1], map, start);
-    s.sound
-}
-
-// The first store that open makes on a pool of n leaves, with working memory of its own.
+// The first store that open makes on a pool of n leaves, surveyed into a map that is all 0.
 fn plan_with(pool: &[u64], n: usize, map: &mut [u8]) -> Planned
     requires { ⌜ Sized (now pool) n × (now map ≡ replicate (bytesOf n) 0) ⌝ }
     ensures { λ r. ⌜ r ≡ plannedOf (openJudged (now (pool .entry)) n (surveyOf (now (pool .entry)) n)) ⌝ }
@@ -111,6 +122,15 @@ fn plan_with(pool: &[u64], n: usize, map: &mut [u8]) -> Planned
     }
 }
 
+// The same in a part of longer working memory, as long as the pool's map.
+fn plan_within(pool: &[u64], n: usize, scratch: &mut [u8]) -> Planned
+    requires { ⌜ Sized (now pool) n × (now scratch ≡ replicate 2047 0) ⌝ }
+    ensures { λ r. ⌜ r ≡ plannedOf (openJudged (now (pool .entry)) n (surveyOf (now (pool .entry)) n)) ⌝ }
+{
+    let bytes = 2 * n - 1;
+    plan_with(pool, n, &mut scratch[0..bytes])
+}
+
 // The first store that open makes, or none.
 pub fn plan_open(pool: &[u64]) -> Planned
     ensures { λ r. ⌜ r ≡ plannedOf (openPlan (now (pool .entry))) ⌝ }
@@ -122,15 +142,6 @@ pub fn plan_open(pool: &[u64]) -> Planned
     plan_within(pool, n, &mut scratch)
 }
 
-// The same in a part of the working memory, as long as the pool's map.
-fn plan_within(pool: &[u64], n: usize, scratch: &mut [u8]) -> Planned
-    requires { ⌜ Sized (now pool) n × (now scratch ≡ replicate 2047 0) ⌝ }
-    ensures { λ r. ⌜ r ≡ plannedOf (openJudged (now (pool .entry)) n (surveyOf (now (pool .entry)) n)) ⌝ }
-{
-    let bytes = 2 * n - 1;
-    plan_with(pool, n, &mut scratch[0..bytes])
-}
-
 // Mends node j if it is stale; how many headers were rewritten.
 fn mend_node(pool: &mut [u64], n: usize, map: &[u8], j: usize) -> usize
     requires { ⌜ Sized (now pool) n × (length (now map) ≡ bytesOf n) × (j + 1 < n) ⌝ }
@@ -139,8 +150,11 @@ fn mend_node(pool: &mut [u64], n: usize, map: &[u8], j: usize) -> usize
     if !is_stale(pool, n, map, j) {
         return 0;
     }
-    let plan = mend_plan(pool, n, marked_depth(map, n, j), j);
-    plan::run(pool, plan, plan.count)
+    let Fresh::Header(word) = fresh_header(pool, n, marked_depth(map, n, j), j) else {
+        return 0;
+    };
+    plan::step(pool, plan_of_one(pool::node_word(n, j), word), 0);
+    1
 }
 
 // Mends every stale header, lower-numbered nodes first, one step each.
@@ -168,30 +182,33 @@ fn clear(map: &mut [u8])
     }
 }
 
+// A mark as a byte of the map: 1 if the slot is reached.
+fn flat(mark: u8) -> u8
+    ensures { λ r. ⌜ r ≡ reached mark ⌝ }
+{
+    if mark == 0 { 0 } else { 1 }
+}
+
 // Every mark becomes 1.
 fn flatten(map: &mut [u8])
     ensures { λ _. ⌜ now (map .exit) ≡ mapped reached (now (map .entry)) ⌝ }
 {
     let mut i: usize = 0;
     while i < map.len() {
-        if map[i] != 0 {
-            map[i] = 1;
-        }
+        map[i] = flat(map[i]);
         i += 1;
     }
 }
 
-// How many of the first n slots are reached.
+// How many of the first n slots are reached, in a map of bytes 0 and 1.
 fn keys(map: &[u8], n: usize) -> usize
-    requires { ⌜ n ≤ length (now map) ⌝ }
+    requires { ⌜ (n ≤ length (now map)) × ((i : ℕ) → getD (now map) i 0 ≤ 1) ⌝ }
     ensures { λ r. ⌜ r ≡ keysOf n (now (map .entry)) ⌝ }
 {
     let mut count: usize = 0;
     let mut i: usize = 0;
     while i < n {
-        if map[i] != 0 {
-            count += 1;
-        }
+        count += map[i] as usize;
         i += 1;
     }
     count
@@ -224,8 +241,8 @@ pub fn open(pool: &mut [u64], map: &mut [u8]) -> Opened
         return refused(2);
     }
     let headers = mend(pool, n, map);
-    let count = keys(map, n);
     flatten(map);
+    let count = keys(map, n);
     Opened {
         number: 0,
         keys: count,
