@@ -7,7 +7,7 @@ use native.Mathlib.Decide.{decLe}
 use native.Mathlib.Numerals.{add-one}
 use native.Mathlib.Omega.{arith}
 use Rattle.digits.specs.Choice.{pick}
-use Rattle.digits.specs.Loops.{upto}
+use Rattle.digits.specs.Loops.{upto, tally}
 
 -- what is true of both is true of the one chosen
 pub pick-both : {A : Type 0} (P : A → Type 0) (t : Bool) {a b : A} → P a → P b → P (pick t a b)
@@ -37,3 +37,9 @@ pub upto-same : {A : Type 0} (f g : ℕ → A → A) (a : A) → ((m : ℕ) (x :
 unfolding upto
 upto-same f g a h zero = refl
 upto-same f g a h (suc i) = h i (upto i f a) ∙ ap (g i) (upto-same f g a h i)
+
+-- counts by equal tests are equal
+pub tally-same : (f g : ℕ → Bool) → ((i : ℕ) → f i ≡ g i) → (n : ℕ) → tally n f ≡ tally n g
+unfolding tally
+tally-same f g h zero = refl
+tally-same f g h (suc n) = rw (tally-same f g h n, h n)

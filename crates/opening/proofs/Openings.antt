@@ -10,7 +10,7 @@ use native.Mathlib.Numerals.{add-one}
 use native.Mathlib.Omega.{arith}
 use borrow.Author.Tests.{eq-eqb, ne-eqb, lt-ltb, le-ltb, not-true, not-false}
 use lib.Dec.{eqb, ltb}
-use lib.ListN.{length, getD, set, take, drop, replicate}
+use lib.ListN.{length, getD, set, take, drop, replicate, List·getD-map}
 use Rattle.digits.specs.Choice.{pick}
 use Rattle.digits.specs.Loops.{upto, scan, tally}
 use Rattle.digits.specs.Headers.{headerOf, depthOf}
@@ -31,8 +31,8 @@ use Rattle.plan.specs.declared.Plan.{Plan}
 use Rattle.plan.specs.declared.Effect.the-variants.{Nothing}
 use Rattle.plan.proofs.Laws.{step-made}
 use Rattle.opening.specs.Surveys.{Survey, surveyOf, Found}
-use Rattle.opening.specs.Openings.{depthMarked, stale, mendWith, mendAt, mendOf, firstStale, mendFirst, openJudged, openPlan, Mended, mends, mendNode, mended, reached, keysOf, opened, Left, left, openOf}
-use Rattle.opening.proofs.Loops.{pick-both, upto-turn}
+use Rattle.opening.specs.Openings.{depthMarked, stale, mendWith, mendAt, mendOf, firstStale, mendFirst, openJudged, openPlan, Mended, mends, mendNode, mended, reached, keysOf, opened, Left, left, restored, leftJudged, openOf}
+use Rattle.opening.proofs.Loops.{pick-both, upto-turn, tally-same}
 
 -- ---- the map's bytes
 -- the first i of a list changed by f
@@ -152,3 +152,71 @@ module _ (n : ℕ) (marks pool : List ℕ) where
   pub mended-next : (j : ℕ) {p q : List ℕ} {h r : ℕ} → mends p h ≡ mended n marks j pool → mends q r ≡ mendNode n marks j (mends p 0) → mends q (h + r) ≡ mended n marks (j + 1) pool
   mended-next j {p} {q} {h} {r} e f =
       sym (upto-turn (mendNode n marks) (mends pool 0) j ∙ ap (mendNode n marks j) (sym e) ∙ mend-on n marks j h p ∙ rw (← f))
+
+-- ---- the map rebuilt
+byte-flat : (m : ℕ) → reached m ≤ 1
+byte-flat m = pick-both (λ b. b ≤ 1) (eqb m 0) (omega arith) (omega arith)
+
+-- its bytes are 0 or 1
+pub bytes-flat : (marks : List ℕ) (i : ℕ) → getD (map reached marks) i 0 ≤ 1
+bytes-flat marks i = rw (List·getD-map reached marks i 0) (byte-flat (getD marks i 0))
+
+flat-same : (m : ℕ) → eqb (reached m) 0 ≡ eqb m 0
+flat-same m = go (eqb m 0)
+  where
+    go : (t : Bool) → eqb (pick t 0 1) 0 ≡ t
+    go true = refl
+    go false = refl
+
+-- and just as many slots are reached
+pub keys-flat : (n : ℕ) (marks : List ℕ) → keysOf n (map reached marks) ≡ keysOf n marks
+keys-flat n marks = tally-same _ _ (λ i. rw (List·getD-map reached marks i 0) (ap not (flat-same (getD marks i 0)))) n
+
+pub restores : (n : ℕ) (marks pool : List ℕ) {p m : List ℕ} {h k : ℕ} → mends p h ≡ mended n marks (n - 1) pool → m ≡ map reached marks → k ≡ keysOf n m
+    → left (opened 0 k h) p m ≡ restored n marks pool
+restores n marks pool {p} {m} {h} {k} e q r = rw (← e, r, q) (ap (λ (x : ℕ). left (opened 0 x h) p (map reached marks)) (keys-flat n marks))
+
+-- ---- what is judged, by what `survey` told
+module _ (pool : List ℕ) (n : ℕ) {m : List ℕ} {r : Bool} (told : Found m r (surveyOf pool n)) where
+  judged : {t : Bool} → r ≡ t → surveyOf pool n .census .sound ≡ t
+  judged e = sym (told .judged) ∙ e
+
+  pub plan-refused : not r ≡ true → plannedOf (refused 2) ≡ plannedOf (openJudged pool n (surveyOf pool n))
+  plan-refused h = rw (judged (not-true r h))
+
+  pub plan-first : {p : Plan} → not r ≡ false → p ≡ planOf (mendFirst pool n m) Nothing → record { number = 0; plan = p } ≡ plannedOf (openJudged pool n (surveyOf pool n))
+  plan-first h q =
+      let e = judged (not-false r h) in
+      rw (e, q, told .marked e)
+
+  pub open-damaged : (bytes : List ℕ) {m′ : List ℕ} → not r ≡ true → m′ ≡ replicate (length m) 0 → length m ≡ length bytes → left (opened 2 0 0) pool m′ ≡ leftJudged pool bytes n (surveyOf pool n)
+  open-damaged bytes h q l = rw (judged (not-true r h), q, l)
+
+  pub open-restored : (bytes : List ℕ) {x : Left} → not r ≡ false → x ≡ restored n m pool → x ≡ leftJudged pool bytes n (surveyOf pool n)
+  open-restored bytes h q =
+      let e = judged (not-false r h) in
+      rw (e, q, told .marked e)
+
+-- ---- the sizes, by what `capacity` told
+module _ (pool : List ℕ) {x : Size} (is : x ≡ capacityOf pool) where
+  pub plan-wrong : x ≡ Wrong → plannedOf (refused 1) ≡ plannedOf (openPlan pool)
+  unfolding openPlan
+  plan-wrong e = rw (← is, e)
+
+  pub plan-holds : {n : ℕ} → x ≡ Holds n → plannedOf (openJudged pool n (surveyOf pool n)) ≡ plannedOf (openPlan pool)
+  unfolding openPlan
+  plan-holds e = rw (← is, e)
+
+  module _ (bytes : List ℕ) where
+    pub open-wrong : x ≡ Wrong → left (opened 1 0 0) pool bytes ≡ openOf pool bytes
+    unfolding openOf
+    open-wrong e = rw (← is, e)
+
+    module _ {n : ℕ} (e : x ≡ Holds n) where
+      pub open-unsized : (length bytes ≡ bytesOf n → ⊥) → left (opened 1 0 0) pool bytes ≡ openOf pool bytes
+      unfolding openOf
+      open-unsized h = rw (← is, e, ne-eqb (length bytes) (bytesOf n) h)
+
+      pub open-holds : length bytes ≡ bytesOf n → leftJudged pool bytes n (surveyOf pool n) ≡ openOf pool bytes
+      unfolding openOf
+      open-holds h = rw (← is, e, eq-eqb (length bytes) (bytesOf n) h)

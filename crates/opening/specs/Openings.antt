@@ -109,12 +109,15 @@ left a pool bytes = record { answer = a; pool = pool; map = bytes }
 abbrev pub opened : ℕ → ℕ → ℕ → Opened
 opened k c h = record { number = k; keys = c; headers = h }
 
--- "It answers the number of keys and of headers rewritten." "2 | damage met | pool unchanged; open: map all 0"
+-- a sound pool with these marks: its stale headers rewritten, its map rebuilt. "It answers the number of keys and of headers rewritten."
+abbrev pub restored : ℕ → List ℕ → List ℕ → Left
+restored n marks pool =
+    left (opened 0 (keysOf n marks) (mended n marks (n - 1) pool .headers)) (mended n marks (n - 1) pool .pool) (map reached marks)
+
+-- "2 | damage met | pool unchanged; open: map all 0"
 abbrev pub leftJudged : List ℕ → List ℕ → ℕ → Survey → Left
 leftJudged pool bytes n v =
-    pick (v .census .sound)
-    (left (opened 0 (keysOf n (v .marks)) (mended n (v .marks) (n - 1) pool .headers)) (mended n (v .marks) (n - 1) pool .pool) (map reached (v .marks)))
-    (left (opened 2 0 0) pool (replicate (length bytes) 0))
+    pick (v .census .sound) (restored n (v .marks) pool) (left (opened 2 0 0) pool (replicate (length bytes) 0))
 
 abbrev pub leftIn : List ℕ → List ℕ → Size → Left
 leftIn pool bytes (Holds n) =

@@ -7,7 +7,7 @@ ghost use Rattle.tree.specs.Stores.{Store};
 ghost use Rattle.pool.specs.Sizes.{Sized, bytesOf};
 ghost use Rattle.plan.specs.Plans.{planOf, plannedOf};
 ghost use Rattle.opening.specs.Surveys.{surveyOf};
-ghost use Rattle.opening.specs.Openings.{depthMarked, stale, mendOf, freshStores, mendFirst, openJudged, openPlan, mends, mendNode, mended, reached, keysOf, opened, left, openOf};
+ghost use Rattle.opening.specs.Openings.{depthMarked, stale, mendOf, freshStores, mendFirst, openJudged, openPlan, mends, mendNode, mended, reached, keysOf, opened, left, restored, leftJudged, openOf};
 use crate::packing::pack;
 use crate::surveying::survey;
 use digits::Header;
@@ -225,6 +225,33 @@ fn refused(number: u64) -> Opened
     }
 }
 
+// A sound pool's stale headers are mended, and the marks in its map become 1.
+fn restore(pool: &mut [u64], n: usize, map: &mut [u8]) -> Opened
+    requires { ⌜ Sized (now pool) n × (length (now map) ≡ bytesOf n) ⌝ }
+    ensures { λ r. ⌜ left r (now (pool .exit)) (now (map .exit)) ≡ restored n (now (map .entry)) (now (pool .entry)) ⌝ }
+{
+    let headers = mend(pool, n, map);
+    flatten(map);
+    Opened {
+        number: 0,
+        keys: keys(map, n),
+        headers,
+    }
+}
+
+// Judges a pool of n leaves, and restores it and its map where it is sound.
+fn open_sized(pool: &mut [u64], n: usize, map: &mut [u8]) -> Opened
+    requires { ⌜ Sized (now pool) n × (length (now map) ≡ bytesOf n) ⌝ }
+    ensures { λ r. ⌜ left r (now (pool .exit)) (now (map .exit)) ≡ leftJudged (now (pool .entry)) (now (map .entry)) n (surveyOf (now (pool .entry)) n) ⌝ }
+{
+    clear(map);
+    if !survey(pool, n, map) {
+        clear(map);
+        return refused(2);
+    }
+    restore(pool, n, map)
+}
+
 // Judges the whole pool, mends its stale headers and rebuilds its map.
 pub fn open(pool: &mut [u64], map: &mut [u8]) -> Opened
     ensures { λ r. ⌜ left r (now (pool .exit)) (now (map .exit)) ≡ openOf (now (pool .entry)) (now (map .entry)) ⌝ }
@@ -235,17 +262,5 @@ pub fn open(pool: &mut [u64], map: &mut [u8]) -> Opened
     if map.len() != 2 * n - 1 {
         return refused(1);
     }
-    clear(map);
-    if !survey(pool, n, map) {
-        clear(map);
-        return refused(2);
-    }
-    let headers = mend(pool, n, map);
-    flatten(map);
-    let count = keys(map, n);
-    Opened {
-        number: 0,
-        keys: count,
-        headers,
-    }
+    open_sized(pool, n, map)
 }
