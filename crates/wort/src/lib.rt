@@ -1,7 +1,7 @@
 // The C interface, as include/wort.h declares it: each function hands on to the library.
 ghost use mathlib.Core.Path.{_≡_};
 ghost use mathlib.Core.List.{[], _∷_, _++_};
-ghost use lib.ListN.{take};
+ghost use lib.ListN.{length, take};
 ghost use lib.Seq.{sets};
 ghost use Rattle.digits.specs.Choice.{pick};
 ghost use Rattle.plan.specs.Plans.{after, stepOf};
@@ -132,7 +132,8 @@ fn lay_effect(plan: &mut [u64; 46], effect: Effect)
 }
 
 // Writes the word numbers and the values, after the first four words.
-fn lay_stores(plan: &mut [u64; 46], words: &[usize; 21], values: &[u64; 21])
+fn lay_stores(plan: &mut [u64], words: &[usize], values: &[u64])
+    requires { ⌜ (length (now plan) ≡ 46) × (length (now words) ≡ 21) × (length (now values) ≡ 21) ⌝ }
     ensures { λ _. ⌜ now (plan .exit) ≡ take 4 (now (plan .entry)) ++ now (words .entry) ++ now (values .entry) ⌝ }
 {
     let mut i: usize = 0;
@@ -147,12 +148,15 @@ fn lay_stores(plan: &mut [u64; 46], words: &[usize; 21], values: &[u64; 21])
 fn hand_out(plan: &mut [u64; 46], p: Planned) -> u64
     ensures { λ r. ⌜ planned r (now (plan .exit)) ≡ planned (p .number) (wordsOf (p .plan)) ⌝ }
 {
-    let words = p.plan.words;
-    let values = p.plan.values;
-    plan[0] = p.plan.count as u64;
-    lay_effect(plan, p.plan.effect);
+    let number = p.number;
+    let decided = p.plan;
+    let words = decided.words;
+    let values = decided.values;
+    let effect = decided.effect;
+    plan[0] = decided.count as u64;
+    lay_effect(plan, effect);
     lay_stores(plan, &words, &values);
-    p.number
+    number
 }
 
 // The effect that three words say.
@@ -175,7 +179,8 @@ fn effect_in(kind: u64, leaf: usize, node: usize) -> Effect
 }
 
 // The plan that a run of 46 words says.
-fn taken_in(plan: &[u64; 46]) -> Plan
+fn taken_in(plan: &[u64]) -> Plan
+    requires { ⌜ length (now plan) ≡ 46 ⌝ }
     ensures { λ r. ⌜ r ≡ planIn (now (plan .entry)) ⌝ }
 {
     let mut words = [0usize; 21];
