@@ -1,9 +1,10 @@
 -- Laws of loops over places, and of a choice by a test.
 -- Assumes nothing.
 use mathlib.Core.Path.{_≡_, refl, ap, _∙_}
+use mathlib.Core.Logic.{_≢_}
 use mathlib.Core.Bool.{Bool, true, false}
-use Prim.Native.Nat.{ℕ, zero, suc, _+_, _-_, _≤_}
-use native.Mathlib.Decide.{decLe}
+use Prim.Native.Nat.{ℕ, zero, suc, _+_, _≤_, _<_}
+use native.Mathlib.Decide.{decLe, decLt}
 use native.Mathlib.Numerals.{add-one}
 use native.Mathlib.Omega.{arith}
 use Rattle.digits.specs.Choice.{pick}
@@ -38,8 +39,21 @@ unfolding upto
 upto-same f g a h zero = refl
 upto-same f g a h (suc i) = h i (upto i f a) ∙ ap (g i) (upto-same f g a h i)
 
--- counts by equal tests are equal
-pub tally-same : (f g : ℕ → Bool) → ((i : ℕ) → f i ≡ g i) → (n : ℕ) → tally n f ≡ tally n g
+-- counts by tests that are equal at each place are equal
+pub tally-same : (f g : ℕ → Bool) (n : ℕ) → ((i : ℕ) → i < n → f i ≡ g i) → tally n f ≡ tally n g
 unfolding tally
-tally-same f g h zero = refl
-tally-same f g h (suc n) = rw (tally-same f g h n, h n)
+tally-same f g zero h = refl
+tally-same f g (suc n) h = rw (tally-same f g n (λ i l. h i (omega arith)), h n (omega arith))
+
+-- a test that passes at one place more counts one more
+pub tally-flip : (f g : ℕ → Bool) (n x : ℕ) → x < n → f x ≡ false → g x ≡ true → ((i : ℕ) → i < n → i ≢ x → f i ≡ g i) → tally n g ≡ tally n f + 1
+unfolding tally
+tally-flip f g zero x l a b h = absurd (omega arith)
+tally-flip f g (suc n) x l a b h =
+    elim (decLt x n) [
+      | yes k ↦ rw (← h n (omega arith) (λ e. omega arith)) (omega (arith, tally-flip f g n x k a b (λ i q. h i (omega arith))))
+      | no k ↦
+          let e : x ≡ n = omega arith in
+          let s : tally x f ≡ tally x g = tally-same f g x (λ i q. h i (omega arith) (λ z. omega arith)) in
+          rw (← e, a, b, ← s) (omega arith)
+    ]

@@ -1,9 +1,9 @@
 -- What each step of an opening comes to, by what its calls tell: the map's bytes, the header that mends a node, the first of them, all of them.
 -- Assumes nothing.
-use mathlib.Core.Path.{_≡_, refl, sym, ap, ap₂, _∙_}
+use mathlib.Core.Path.{_≡_, refl, sym, ap, _∙_}
 use mathlib.Core.Bool.{Bool, true, false, not}
 use mathlib.Core.List.{List, [], _∷_, _++_, map}
-use Prim.Native.Nat.{ℕ, zero, suc, _+_, _-_, _*_, _≤_, _<_}
+use Prim.Native.Nat.{ℕ, zero, suc, _+_, _-_, _≤_, _<_}
 use native.Mathlib.Decide.{decLt}
 use native.Mathlib.Nat.{le-of-suc-le-suc, not-suc-le-zero}
 use native.Mathlib.Numerals.{add-one}
@@ -12,11 +12,11 @@ use borrow.Author.Tests.{eq-eqb, ne-eqb, lt-ltb, le-ltb, not-true, not-false}
 use lib.Dec.{eqb, ltb}
 use lib.ListN.{length, getD, set, take, drop, replicate, List·getD-map}
 use Rattle.digits.specs.Choice.{pick}
-use Rattle.digits.specs.Loops.{upto, scan, tally}
+use Rattle.digits.specs.Loops.{upto}
 use Rattle.digits.specs.Headers.{headerOf, depthOf}
 use Rattle.tree.specs.Stores.{Store}
 use Rattle.tree.proofs.Stores.{Words}
-use Rattle.pool.specs.Sizes.{Sized, capacityOf, bytesOf}
+use Rattle.pool.specs.Sizes.{capacityOf, bytesOf}
 use Rattle.pool.specs.Places.{headerAt, nodeWord, nodeRef}
 use Rattle.pool.specs.declared.Size.{Size}
 use Rattle.pool.specs.declared.Size.the-variants.{Holds, Wrong}
@@ -25,12 +25,12 @@ use Rattle.walk.specs.declared.Head.{Head}
 use Rattle.walk.specs.declared.Head.the-variants.{Branch, Wrong as Unaccepted}
 use Rattle.walk.specs.declared.Lowest.{Lowest}
 use Rattle.walk.specs.declared.Lowest.the-variants.{Key, NoKey}
-use Rattle.walk.proofs.Loops.{scan-here, scan-next, scan-none, tally-true, tally-false, tally-le}
+use Rattle.walk.proofs.Loops.{tally-true, tally-false, tally-le}
 use Rattle.plan.specs.Plans.{made, planOf, plannedOf, refused, After, after, stepOf}
 use Rattle.plan.specs.declared.Plan.{Plan}
 use Rattle.plan.specs.declared.Effect.the-variants.{Nothing}
 use Rattle.plan.proofs.Laws.{step-made}
-use Rattle.opening.specs.Surveys.{Survey, surveyOf, Found}
+use Rattle.opening.specs.Surveys.{surveyOf, Found}
 use Rattle.opening.specs.Openings.{depthMarked, stale, mendWith, mendAt, mendOf, firstStale, mendFirst, openJudged, openPlan, Mended, mends, mendNode, mended, reached, keysOf, opened, Left, left, restored, leftJudged, openOf}
 use Rattle.opening.proofs.Loops.{pick-both, upto-turn, tally-same}
 
@@ -106,6 +106,7 @@ mend-few pool n w j = go (headOf w (headerAt pool n j))
     low : (b : ℕ) (l : Lowest) → length (mendWith n w j b l) ≤ 1
     low b (Key k) = omega arith
     low b NoKey = omega arith
+
     go : (h : Head) → length (mendAt pool n w j h) ≤ 1
     go (Branch b) = low b (lowestOf pool n w (nodeRef j))
     go Unaccepted = omega arith
@@ -139,6 +140,7 @@ mend-on n marks j h pool = go (stale pool n marks j)
   where
     σ : List Store
     σ = mendOf pool n (depthMarked marks n j) j
+
     go : (t : Bool) → pick t (mends (made σ pool) (h + length σ)) (mends pool h)
         ≡ mends (pick t (mends (made σ pool) (0 + length σ)) (mends pool 0) .pool) (h + pick t (mends (made σ pool) (0 + length σ)) (mends pool 0) .headers)
     go true = ap (mends (made σ pool)) (omega arith)
@@ -170,7 +172,7 @@ flat-same m = go (eqb m 0)
 
 -- and just as many slots are reached
 pub keys-flat : (n : ℕ) (marks : List ℕ) → keysOf n (map reached marks) ≡ keysOf n marks
-keys-flat n marks = tally-same _ _ (λ i. rw (List·getD-map reached marks i 0) (ap not (flat-same (getD marks i 0)))) n
+keys-flat n marks = tally-same _ _ n (λ i l. rw (List·getD-map reached marks i 0) (ap not (flat-same (getD marks i 0))))
 
 pub restores : (n : ℕ) (marks pool : List ℕ) {p m : List ℕ} {h k : ℕ} → mends p h ≡ mended n marks (n - 1) pool → m ≡ map reached marks → k ≡ keysOf n m
     → left (opened 0 k h) p m ≡ restored n marks pool

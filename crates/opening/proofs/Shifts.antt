@@ -1,14 +1,13 @@
 -- The stored digits of a header in one go: the key shifted so that the prefix comes first, and cut after the digits that are stored.
 -- Assumes nothing.
-use mathlib.Core.Path.{_≡_, refl, sym, ap, ap₂, _∙_}
+use mathlib.Core.Path.{_≡_, sym, ap, _∙_}
 use Prim.Native.Nat.{ℕ, zero, suc, _+_, _-_, _*_, _/_, _%_, _^_, _≤_, _<_, min}
 use native.Mathlib.Decide.{decLt}
 use native.Mathlib.Nat.{zero-add}
 use native.Mathlib.Omega.{arith}
 use borrow.Author.Tests.{lt-ltb, le-ltb}
-use lib.Dec.{ltb, lit≤}
 use lib.Bits.{bitOr}
-use lib.Pow.{pow-add, pow-pos, mod-pow-add, field, shr-shr, shl-shr, shl-exact}
+use lib.Pow.{pow-add, mod-pow-add, field, shr-shr, shl-shr, shl-exact}
 use Rattle.digits.specs.Headers.{storedIn, headerOf}
 use Rattle.digits.proofs.Headers.{stored-lt, packed}
 

@@ -1,12 +1,12 @@
 -- Laws of the survey: one that has met damage does nothing, its bound on nodes is not seen, and a reference to no node is met alike at every depth.
 -- Assumes nothing.
 use mathlib.Core.Path.{_≡_, refl, sym, ap, _∙_}
-use mathlib.Core.Bool.{Bool, true, false}
+use mathlib.Core.Bool.{true, false}
 use mathlib.Core.List.{List}
 use Prim.Native.Nat.{ℕ, zero, suc, _+_, _≤_, _<_}
 use native.Mathlib.Omega.{arith}
 use lib.Dec.{eqb, ltb}
-use lib.ListN.{getD, set}
+use lib.ListN.{getD}
 use Rattle.digits.specs.Choice.{pick}
 use Rattle.pool.specs.Places.{headerAt, childAt}
 use Rattle.pool.specs.Refs.{refOf}
@@ -16,7 +16,7 @@ use Rattle.walk.specs.Walks.{headOf, Between, childrenOf}
 use Rattle.walk.specs.declared.Head.{Head}
 use Rattle.walk.specs.declared.Head.the-variants.{Branch, Wrong}
 use Rattle.walk.proofs.Heads.{between}
-use Rattle.opening.specs.Surveys.{Survey, survey, spoilt, kidOf, kidsOf, closed, nodeMet, refMet, surveyFrom}
+use Rattle.opening.specs.Surveys.{Survey, survey, spoilt, kidOf, closed, nodeMet, refMet, surveyFrom}
 use Rattle.opening.proofs.Loops.{upto-same}
 
 module _ (pool : List ℕ) (n : ℕ) where
@@ -74,11 +74,11 @@ module _ (pool : List ℕ) (n : ℕ) where
   survey-bound-unseen (suc f) (suc g) w r v a b =
       nodes-same (suc f) (suc g) w w r v (λ j e.
       kids-same (surveyFrom f pool n) (surveyFrom g pool n) w j v (λ d x u l. survey-bound-unseen f g d x u (omega arith) (omega arith)) (headOf w (headerAt pool n j))
-          (between w (headerAt pool n j)))
+      (between w (headerAt pool n j)))
 
   -- so a node's children are surveyed under the bound of the node
   pub node-bound-unseen : (f w j : ℕ) (v : Survey) → 16 ≤ f → nodeFrom f w j v ≡ nodeMet (surveyFrom f pool n) pool n w j (headOf w (headerAt pool n j)) v
   node-bound-unseen zero w j v l = absurd (omega arith)
   node-bound-unseen (suc f) w j v l =
       kids-same (surveyFrom f pool n) (surveyFrom (suc f) pool n) w j v (λ d x u g. survey-bound-unseen f (suc f) d x u (omega arith) (omega arith)) (headOf w (headerAt pool n j))
-          (between w (headerAt pool n j))
+      (between w (headerAt pool n j))

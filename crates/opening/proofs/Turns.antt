@@ -1,6 +1,6 @@
 -- What each turn of the code's survey comes to, by what its calls and matches tell. Damage anywhere below a node is damage at the node.
 -- Assumes nothing.
-use mathlib.Core.Path.{_≡_, refl, sym, ap, ap₂, _∙_}
+use mathlib.Core.Path.{_≡_, refl, sym, ap, _∙_}
 use mathlib.Core.Bool.{Bool, true, false, not}
 use mathlib.Core.List.{List}
 use Prim.Native.Nat.{ℕ, _+_, _-_, _≤_, _<_}
@@ -23,7 +23,7 @@ use Rattle.walk.specs.declared.Head.the-variants.{Branch, Wrong}
 use Rattle.walk.proofs.Nodes.{counted, uncounted}
 use Rattle.opening.specs.declared.surveying.Census.{Census}
 use Rattle.opening.specs.declared.surveying.Gather.{Gather}
-use Rattle.opening.specs.Surveys.{Survey, survey, census, spoilt, leafMet, gather, joinOf, Gathered, gathered, kidOf, kidsOf, Accepted, headJudged, closed, nodeMet, surveyFrom, surveyOf, Alike, Gives, Found}
+use Rattle.opening.specs.Surveys.{Survey, survey, census, leafMet, gather, joinOf, Gathered, gathered, kidOf, Accepted, headJudged, nodeMet, surveyFrom, surveyOf, Alike, Gives, Found}
 use Rattle.opening.proofs.Loops.{pick-both, upto-turn, upto-keeps}
 use Rattle.opening.proofs.Surveys.{survey-over, survey-on, node-bound-unseen}
 

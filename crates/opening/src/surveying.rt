@@ -55,10 +55,7 @@ fn gathered(last: u64, sound: bool, first: u64) -> Gather
     ensures { λ r. ⌜ r ≡ gather (census last sound) first true ⌝ }
 {
     Gather {
-        census: Census {
-            last,
-            sound,
-        },
+        census: Census { last, sound },
         first,
         some: true,
     }

@@ -1,15 +1,14 @@
-use borrow.Author.Needs.{needs}
+-- `clear` fills the map with 0 from its start on. Assumes nothing.
 use mathlib.Core.Path.{_≡_, _∙_}
 use mathlib.Core.List.{_++_, append-nil}
 use Prim.Native.Nat.{_-_, _≤_}
 use native.Mathlib.Omega.{arith}
+use borrow.Author.Needs.{needs}
 use borrow.Author.Fill.{fill-more}
 use lib.ListN.{length, drop, replicate, length-set}
 use lib.Seq.{drop-length}
 use Rattle.opening.proofs.mending.clear.Statement.{statement}
 use Rattle.opening.proofs.mending.clear.Tie as tie
-use Rattle.opening.proofs.mending.clear.Reads as reads
-use Rattle.opening.proofs.mending.clear.Lts as lts
 
 abbrev Inv-loop : tie.InvT-loop
 Inv-loop map₀ i₀ map i = (i ≤ length map₀) × (length map ≡ length map₀) × (map ≡ replicate i 0 ++ drop i map₀)
@@ -17,33 +16,26 @@ Inv-loop map₀ i₀ map i = (i ≤ length map₀) × (length map ≡ length map
 abbrev μ-loop : tie.MeasureT-loop
 μ-loop map₀ i₀ map i = length map₀ - i
 
--- src/mending.rt:179:5
 loop-holds : tie.Need-loop-holds Inv-loop μ-loop
 loop-holds c = search needs
 
--- src/mending.rt:180:9
 slice-write-map : tie.Need-slice-write-map Inv-loop μ-loop
 slice-write-map c = search needs
 
--- src/mending.rt:181:9
 add-i : tie.Need-add-i Inv-loop μ-loop
 add-i c = search needs
 
--- src/mending.rt:179:5
 loop-less : tie.Need-loop-less Inv-loop μ-loop
 loop-less c = search needs
 
--- src/mending.rt:179:5
 loop-again : tie.Need-loop-again Inv-loop μ-loop
 loop-again c = (omega arith, simp length-set (omega arith), rw (c .before .loop .inv .2) (fill-more (c .before .loop .i) 0 (c .before .before .args .map .now) (omega arith)))
 
--- src/mending.rt:175:1
 same-length : tie.Need-same-length Inv-loop μ-loop
 same-length c = search needs
 
--- src/mending.rt:175:1
 returns : tie.Need-returns Inv-loop μ-loop
-returns c = 
+returns c =
     let e : c .before .loop .i ≡ length (c .before .before .args .map .now) = omega arith in
     c .before .loop .inv .2 ∙ rw (e, drop-length) (append-nil _)
 

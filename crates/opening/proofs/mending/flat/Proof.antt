@@ -1,15 +1,11 @@
-use borrow.Author.Needs.{needs}
+-- `flat` is 0 for the mark 0 and else 1. Assumes nothing.
 use borrow.Author.Tests.{eq-eqb, ne-eqb}
 use Rattle.opening.proofs.mending.flat.Statement.{statement}
 use Rattle.opening.proofs.mending.flat.Tie as tie
-use Rattle.opening.proofs.mending.flat.Reads as reads
-use Rattle.opening.proofs.mending.flat.Lts as lts
 
--- src/mending.rt:186:1
 returns : tie.Need-returns
 returns c = simp (eq-eqb _ _ (c .if1 .taken))
 
--- src/mending.rt:186:1
 returns-2 : tie.Need-returns-2
 returns-2 c = simp (ne-eqb _ _ (c .if1 .left))
 

@@ -1,73 +1,54 @@
+-- `fresh_header` is the header of the definition's store, by the header that was accepted and the lowest leaf's key. Assumes nothing.
 use native.Mathlib.Omega.{arith}
-use Rattle.opening.proofs.Openings.{mend-wrong, mend-keyless, mend-header}
 use borrow.Author.Needs.{needs}
+use Rattle.opening.proofs.Openings.{mend-wrong, mend-keyless, mend-header}
 use Rattle.opening.proofs.mending.fresh_header.Statement.{statement}
 use Rattle.opening.proofs.mending.fresh_header.Tie as tie
-use Rattle.opening.proofs.mending.fresh_header.Reads as reads
-use Rattle.opening.proofs.mending.fresh_header.Lts as lts
-use Rattle.opening.proofs.packing.pack.Reads as pack-reads
-use Rattle.pool.proofs.header.Reads as header-reads
-use Rattle.pool.proofs.node_ref.Reads as node-ref-reads
-use Rattle.walk.proofs.accept.Reads as accept-reads
-use Rattle.walk.proofs.lowest_leaf.Reads as lowest-leaf-reads
 
--- src/mending.rt:60:43
 header-requires : tie.Need-header-requires
 header-requires c κs = search needs
 
--- src/mending.rt:60:27
 accept-requires : tie.Need-accept-requires
 accept-requires c κs = search needs
 
--- src/mending.rt:60:22
 enum-known-b : tie.Need-enum-known-b
 enum-known-b c = search needs
 
--- src/mending.rt:61:9
 enum-told : tie.Need-enum-told
 enum-told c = search needs
 
--- src/mending.rt:61:9
 returns : tie.Need-returns
-returns c = 
+returns c =
     let a = c .before .before .before .before .before .args in
     mend-wrong (a .pool .now) (a .n) (a .w) (a .j) (c .before .before .before .header .ensures) (c .before .before .accept .ensures .0) (c .enum-told .given .1)
 
--- src/mending.rt:63:59
 node-ref-requires : tie.Need-node-ref-requires
 node-ref-requires c κs = search needs
 
--- src/mending.rt:63:29
 lowest-leaf-requires : tie.Need-lowest-leaf-requires
-lowest-leaf-requires c κs = 
+lowest-leaf-requires c κs =
     let h = rw (c .before .before .b .given .1) at (c .before .before .before .before .accept .ensures .1) in
     (c .before .before .before .before .before .before .before .pre .0, omega arith)
 
--- src/mending.rt:63:21
 enum-known-near : tie.Need-enum-known-near
 enum-known-near c = search needs
 
--- src/mending.rt:64:9
 enum-told-2 : tie.Need-enum-told-2
 enum-told-2 c = search needs
 
--- src/mending.rt:64:9
 returns-2 : tie.Need-returns-2
-returns-2 c = 
+returns-2 c =
     let a = c .before .before .before .before .before .before .before .before .before .before .args in
     mend-keyless (a .pool .now) (a .n) (a .w) (a .j) (c .before .before .before .before .before .before .before .before .header .ensures) (c .before .before .before .before .before .before .before .accept .ensures .0) (c .before .before .before .before .before .b .given .1) (c .before .before .before .node-ref .ensures) (c .before .before .lowest-leaf .ensures) (c .enum-told2 .given .1)
 
--- src/mending.rt:66:27
 sub-pack : tie.Need-sub-pack
 sub-pack c = let h = rw (c .before .before .before .before .before .before .b .given .1) at (c .before .before .before .before .before .before .before .before .accept .ensures .1) in omega arith
 
--- src/mending.rt:66:19
 pack-requires : tie.Need-pack-requires
 pack-requires c κs = let h = rw (c .before .before .before .before .before .before .b .given .1) at (c .before .before .before .before .before .before .before .before .accept .ensures .1) in omega arith
 
--- src/mending.rt:56:1
 returns-3 : tie.Need-returns-3
-returns-3 c = 
+returns-3 c =
     let a = c .before .before .before .before .before .before .before .before .before .before .before .before .args in
     mend-header (a .pool .now) (a .n) (a .w) (a .j) (c .before .before .before .before .before .before .before .before .before .before .header .ensures) (c .before .before .before .before .before .before .before .before .before .accept .ensures .0) (c .before .before .before .before .before .before .before .b .given .1) (c .before .before .before .before .before .node-ref .ensures) (c .before .before .before .before .lowest-leaf .ensures) (c .before .before .near .given .1) (c .pack .ensures)
 

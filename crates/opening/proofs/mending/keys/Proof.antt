@@ -1,14 +1,13 @@
-use borrow.Author.Needs.{needs}
+-- `keys` adds up bytes that are 0 or 1, and so counts those that are not 0. Assumes nothing.
 use mathlib.Core.Path.{_≡_}
 use Prim.Native.Nat.{_-_, _≤_}
 use native.Mathlib.Omega.{arith}
+use borrow.Author.Needs.{needs}
 use Rattle.digits.specs.Loops.{tally}
 use Rattle.opening.specs.Openings.{keysOf}
 use Rattle.opening.proofs.Openings.{byte-counted, few-keys}
 use Rattle.opening.proofs.mending.keys.Statement.{statement}
 use Rattle.opening.proofs.mending.keys.Tie as tie
-use Rattle.opening.proofs.mending.keys.Reads as reads
-use Rattle.opening.proofs.mending.keys.Lts as lts
 
 abbrev Inv-loop : tie.InvT-loop
 Inv-loop map n count₀ i₀ count i = (i ≤ n) × (count ≡ keysOf i map)
@@ -16,38 +15,30 @@ Inv-loop map n count₀ i₀ count i = (i ≤ n) × (count ≡ keysOf i map)
 abbrev μ-loop : tie.MeasureT-loop
 μ-loop map n count₀ i₀ count i = n - i
 
--- src/mending.rt:210:5
 loop-holds : tie.Need-loop-holds Inv-loop μ-loop
 unfolding tally
 loop-holds c = search needs
 
--- src/mending.rt:211:18
 shared-slice-read-count : tie.Need-shared-slice-read-count Inv-loop μ-loop
 shared-slice-read-count c = search needs
 
--- src/mending.rt:211:18
 cast-count : tie.Need-cast-count Inv-loop μ-loop
 cast-count c = omega (arith, c .before .before .before .pre .1 (c .before .before .loop .i))
 
--- src/mending.rt:211:9
 add-count : tie.Need-add-count Inv-loop μ-loop
 add-count c = omega (arith, c .before .before .before .pre .1 (c .before .before .loop .i), few-keys (c .before .before .before .args .map .now) (c .before .before .loop .i))
 
--- src/mending.rt:212:9
 add-i : tie.Need-add-i Inv-loop μ-loop
 add-i c = search needs
 
--- src/mending.rt:210:5
 loop-less : tie.Need-loop-less Inv-loop μ-loop
 loop-less c = search needs
 
--- src/mending.rt:210:5
 loop-again : tie.Need-loop-again Inv-loop μ-loop
 loop-again c = (omega arith, byte-counted (c .before .before .before .args .map .now) (c .before .before .loop .i) (c .before .before .before .pre .1 (c .before .before .loop .i)) (c .before .before .loop .inv .1))
 
--- src/mending.rt:204:1
 returns : tie.Need-returns Inv-loop μ-loop
-returns c = 
+returns c =
     let e : c .before .loop .i ≡ c .before .before .args .n = omega arith in
     rw e at (c .before .loop .inv .1)
 

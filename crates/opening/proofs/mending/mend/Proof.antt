@@ -1,15 +1,13 @@
-use borrow.Author.Needs.{needs}
+-- `mend` goes through the nodes: at each turn the pool and the count are those of the nodes passed. Assumes nothing.
 use mathlib.Core.Path.{_≡_, refl, ap}
 use Prim.Native.Nat.{_+_, _-_, _≤_}
 use native.Mathlib.Omega.{arith}
+use borrow.Author.Needs.{needs}
 use lib.ListN.{length}
 use Rattle.opening.specs.Openings.{Mended, mends, mended}
 use Rattle.opening.proofs.Openings.{mend-counts, mended-none, mended-next}
 use Rattle.opening.proofs.mending.mend.Statement.{statement}
 use Rattle.opening.proofs.mending.mend.Tie as tie
-use Rattle.opening.proofs.mending.mend.Reads as reads
-use Rattle.opening.proofs.mending.mend.Lts as lts
-use Rattle.opening.proofs.mending.mend_node.Reads as mend-node-reads
 
 abbrev Inv-loop : tie.InvT-loop
 Inv-loop pool₀ n map headers₀ j₀ pool headers j = (j + 1 ≤ n) × (length pool ≡ length pool₀) × (headers ≤ j) × (mends pool headers ≡ mended n map j pool₀)
@@ -17,45 +15,36 @@ Inv-loop pool₀ n map headers₀ j₀ pool headers j = (j + 1 ≤ n) × (length
 abbrev μ-loop : tie.MeasureT-loop
 μ-loop pool₀ n map headers₀ j₀ pool headers j = n - j
 
--- src/mending.rt:167:5
 loop-holds : tie.Need-loop-holds Inv-loop μ-loop
 loop-holds c = (omega arith, refl, omega arith, mended-none (c .before .before .args .n) (c .before .before .args .map .now) (c .before .before .args .pool .now))
 
--- src/mending.rt:167:11
 add-loop : tie.Need-add-loop Inv-loop μ-loop
 add-loop c = search needs
 
--- src/mending.rt:168:20
 mend-node-requires : tie.Need-mend-node-requires Inv-loop μ-loop
 mend-node-requires c κs = (record { some = c .before .before .before .before .before .pre .0 .some; most = c .before .before .before .before .before .pre .0 .most; words = omega (arith, c .before .before .before .before .before .pre .0 .words) }, c .before .before .before .before .before .pre .1, c .before .loop-test .taken)
 
--- src/mending.rt:168:9
 add-headers : tie.Need-add-headers Inv-loop μ-loop
-add-headers c = 
+add-headers c =
     let l = c .before .before .before .before .before .loop in
     omega (arith, ap (λ (v : Mended). v .headers) (c .before .before .mend-node .ensures), mend-counts (c .before .before .before .before .before .before .before .before .args .n) (c .before .before .before .before .before .before .before .before .args .map .now) (l .j) (l .pool))
 
--- src/mending.rt:169:9
 add-j : tie.Need-add-j Inv-loop μ-loop
 add-j c = search needs
 
--- src/mending.rt:167:5
 loop-less : tie.Need-loop-less Inv-loop μ-loop
 loop-less c = search needs
 
--- src/mending.rt:167:5
 loop-again : tie.Need-loop-again Inv-loop μ-loop
-loop-again c = 
+loop-again c =
     let l = c .before .before .before .before .before .loop in
     (omega arith, omega arith, omega (arith, ap (λ (v : Mended). v .headers) (c .before .before .mend-node .ensures), mend-counts (c .before .before .before .before .before .before .before .before .args .n) (c .before .before .before .before .before .before .before .before .args .map .now) (l .j) (l .pool)), mended-next (c .before .before .before .before .before .before .before .before .args .n) (c .before .before .before .before .before .before .before .before .args .map .now) (c .before .before .before .before .before .before .before .before .args .pool .now) (l .j) (l .inv .3) (c .before .before .mend-node .ensures))
 
--- src/mending.rt:161:1
 same-length : tie.Need-same-length Inv-loop μ-loop
 same-length c = search needs
 
--- src/mending.rt:161:1
 returns : tie.Need-returns Inv-loop μ-loop
-returns c = 
+returns c =
     let e : c .before .loop .j ≡ c .before .before .before .before .args .n - 1 = omega arith in
     rw e at (c .before .loop .inv .3)
 

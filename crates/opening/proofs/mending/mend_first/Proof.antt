@@ -1,9 +1,10 @@
-use borrow.Author.Needs.{needs}
+-- `mend_first` passes the nodes that are not stale: at each turn the scan that is left finds what the whole scan finds. Assumes nothing.
 use mathlib.Core.Path.{_≡_, sym, ap, _∙_}
 use mathlib.Core.List.{List}
 use Prim.Native.Nat.{_+_, _-_, _≤_}
 use native.Mathlib.Nat.{sub-zero}
 use native.Mathlib.Omega.{arith}
+use borrow.Author.Needs.{needs}
 use Rattle.digits.specs.Loops.{scan}
 use Rattle.tree.specs.Stores.{Store}
 use Rattle.walk.proofs.Loops.{scan-here, scan-next, scan-none}
@@ -13,12 +14,6 @@ use Rattle.opening.specs.Openings.{stale, firstStale}
 use Rattle.opening.proofs.Openings.{first-at, first-none}
 use Rattle.opening.proofs.mending.mend_first.Statement.{statement}
 use Rattle.opening.proofs.mending.mend_first.Tie as tie
-use Rattle.opening.proofs.mending.mend_first.Reads as reads
-use Rattle.opening.proofs.mending.mend_first.Lts as lts
-use Rattle.opening.proofs.mending.is_stale.Reads as is-stale-reads
-use Rattle.opening.proofs.mending.marked_depth.Reads as marked-depth-reads
-use Rattle.opening.proofs.mending.mend_plan.Reads as mend-plan-reads
-use Rattle.plan.proofs.Plan.none.Reads as none-reads
 
 abbrev Inv-loop : tie.InvT-loop
 Inv-loop pool n map j₀ j = (j + 1 ≤ n) × (scan (n - 1 - j) j (stale pool n map) ≡ firstStale pool n map)
@@ -26,56 +21,45 @@ Inv-loop pool n map j₀ j = (j + 1 ≤ n) × (scan (n - 1 - j) j (stale pool n 
 abbrev μ-loop : tie.MeasureT-loop
 μ-loop pool n map j₀ j = n - j
 
--- src/mending.rt:102:5
 loop-holds : tie.Need-loop-holds Inv-loop μ-loop
 loop-holds c = (omega arith, rw sub-zero)
 
--- src/mending.rt:102:11
 add-loop : tie.Need-add-loop Inv-loop μ-loop
 add-loop c = search needs
 
--- src/mending.rt:103:12
 is-stale-requires : tie.Need-is-stale-requires Inv-loop μ-loop
 is-stale-requires c κs = search needs
 
--- src/mending.rt:104:39
 marked-depth-requires : tie.Need-marked-depth-requires Inv-loop μ-loop
 marked-depth-requires c κs = search needs
 
--- src/mending.rt:104:13
 mend-plan-requires : tie.Need-mend-plan-requires Inv-loop μ-loop
 mend-plan-requires c κs = search needs
 
--- src/mending.rt:104:13
 returns : tie.Need-returns Inv-loop μ-loop
-returns c = 
+returns c =
     let a = c .before .before .before .before .before .before .before .before .args in
     let l = c .before .before .before .before .before .loop in
     let h : l .j ≡ firstStale (a .pool .now) (a .n) (a .map .now) = scan-here _ _ _ (sym (c .before .before .before .is-stale .ensures) ∙ c .before .before .if1 .taken) ∙ l .inv .1 in
     c .mend-plan .ensures ∙ rw (c .before .marked-depth .ensures) (ap (λ (σ : List Store). planOf σ Nothing) (sym (first-at (a .pool .now) (a .n) (a .map .now) (l .j) h (c .before .before .before .before .loop-test .taken))))
 
--- src/mending.rt:106:9
 add-j : tie.Need-add-j Inv-loop μ-loop
 add-j c = search needs
 
--- src/mending.rt:102:5
 loop-less : tie.Need-loop-less Inv-loop μ-loop
 loop-less c = search needs
 
--- src/mending.rt:102:5
 loop-again : tie.Need-loop-again Inv-loop μ-loop
-loop-again c = 
+loop-again c =
     let a = c .before .before .before .before .before .before .args in
     let l = c .before .before .before .loop in
     (omega arith, sym (scan-next (stale (a .pool .now) (a .n) (a .map .now)) (a .n - 1) (l .j) (omega arith) (sym (c .before .is-stale .ensures) ∙ c .if1 .left)) ∙ l .inv .1)
 
--- src/mending.rt:108:5
 none-requires : tie.Need-none-requires Inv-loop μ-loop
 none-requires c κs = search needs
 
--- src/mending.rt:97:1
 returns-2 : tie.Need-returns-2 Inv-loop μ-loop
-returns-2 c = 
+returns-2 c =
     let a = c .before .before .before .before .before .args in
     let l = c .before .before .loop in
     let h : l .j ≡ firstStale (a .pool .now) (a .n) (a .map .now) = scan-none _ _ _ (omega arith) ∙ l .inv .1 in

@@ -1,43 +1,31 @@
+-- `plan_open` judges the size first. Assumes nothing.
 use mathlib.Core.Path.{refl, _∙_}
-use Rattle.opening.proofs.Openings.{plan-wrong, plan-holds}
 use borrow.Author.Needs.{needs}
+use Rattle.opening.proofs.Openings.{plan-wrong, plan-holds}
 use Rattle.opening.proofs.mending.plan_open.Statement.{statement}
 use Rattle.opening.proofs.mending.plan_open.Tie as tie
-use Rattle.opening.proofs.mending.plan_open.Reads as reads
-use Rattle.opening.proofs.mending.plan_open.Lts as lts
-use Rattle.opening.proofs.mending.plan_within.Reads as plan-within-reads
-use Rattle.plan.proofs.Planned.refused.Reads as refused-reads
-use Rattle.pool.proofs.capacity.Reads as capacity-reads
 
--- src/mending.rt:138:26
 capacity-requires : tie.Need-capacity-requires
 capacity-requires c κs = search needs
 
--- src/mending.rt:138:21
 enum-known-n : tie.Need-enum-known-n
 enum-known-n c = search needs
 
--- src/mending.rt:139:9
 enum-told : tie.Need-enum-told
 enum-told c = search needs
 
--- src/mending.rt:139:9
 refused-requires : tie.Need-refused-requires
 refused-requires c κs = search needs
 
--- src/mending.rt:139:9
 returns : tie.Need-returns
 returns c = c .refused .ensures ∙ plan-wrong (c .before .before .before .before .before .args .pool .now) (c .before .before .before .capacity .ensures .0) (c .before .enum-told .given .1)
 
--- src/mending.rt:142:26
 slice-aggregate-plan-within : tie.Need-slice-aggregate-plan-within
 slice-aggregate-plan-within c = search needs
 
--- src/mending.rt:142:5
 plan-within-requires : tie.Need-plan-within-requires
 plan-within-requires c κs = (rw (c .before .before .n .given .1) at (c .before .before .before .before .capacity .ensures .1), refl)
 
--- src/mending.rt:135:1
 returns-2 : tie.Need-returns-2
 returns-2 c = c .before .plan-within .ensures ∙ plan-holds (c .before .before .before .before .before .before .before .before .args .pool .now) (c .before .before .before .before .before .before .capacity .ensures .0) (c .before .before .before .before .n .given .1)
 

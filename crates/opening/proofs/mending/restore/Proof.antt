@@ -1,35 +1,25 @@
+-- `restore` mends, flattens and counts. Assumes nothing.
 use native.Mathlib.Omega.{arith}
-use Rattle.opening.proofs.Openings.{bytes-flat, restores}
 use borrow.Author.Needs.{needs}
+use Rattle.opening.proofs.Openings.{bytes-flat, restores}
 use Rattle.opening.proofs.mending.restore.Statement.{statement}
 use Rattle.opening.proofs.mending.restore.Tie as tie
-use Rattle.opening.proofs.mending.restore.Reads as reads
-use Rattle.opening.proofs.mending.restore.Lts as lts
-use Rattle.opening.proofs.mending.flatten.Reads as flatten-reads
-use Rattle.opening.proofs.mending.keys.Reads as keys-reads
-use Rattle.opening.proofs.mending.mend.Reads as mend-reads
 
--- src/mending.rt:233:9
 mend-requires : tie.Need-mend-requires
 mend-requires c κs = search needs
 
--- src/mending.rt:234:5
 flatten-requires : tie.Need-flatten-requires
 flatten-requires c κs = search needs
 
--- src/mending.rt:237:15
 keys-requires : tie.Need-keys-requires
 keys-requires c κs = (omega arith, rw (c .before .before .before .flatten .ensures) (bytes-flat (c .before .before .before .before .before .before .before .before .before .before .before .before .args .map .now)))
 
--- src/mending.rt:229:1
 same-length : tie.Need-same-length
 same-length c = search needs
 
--- src/mending.rt:229:1
 same-length-2 : tie.Need-same-length-2
 same-length-2 c = search needs
 
--- src/mending.rt:229:1
 returns : tie.Need-returns
 returns c = restores (c .before .before .before .before .before .before .before .before .before .before .before .before .before .args .n) (c .before .before .before .before .before .before .before .before .before .before .before .before .before .args .map .now) (c .before .before .before .before .before .before .before .before .before .before .before .before .before .args .pool .now) (c .before .before .before .before .before .before .before .before .mend .ensures) (c .before .before .before .before .flatten .ensures) (c .keys .ensures)
 

@@ -1,40 +1,30 @@
-use Rattle.opening.proofs.Shifts.{packed-at-once}
+-- `pack` is the header word, by shifts. Assumes nothing.
 use borrow.Author.Needs.{needs}
+use Rattle.opening.proofs.Shifts.{packed-at-once}
 use Rattle.opening.proofs.packing.pack.Statement.{statement}
 use Rattle.opening.proofs.packing.pack.Tie as tie
-use Rattle.opening.proofs.packing.pack.Reads as reads
-use Rattle.opening.proofs.packing.pack.Lts as lts
-use Rattle.opening.proofs.packing.stored.Reads as stored-reads
 
--- src/packing.rt:23:38
 stored-requires : tie.Need-stored-requires
 stored-requires c κs = search needs
 
--- src/packing.rt:23:21
 sub-rest : tie.Need-sub-rest
 sub-rest c = search needs
 
--- src/packing.rt:23:16
 mul-rest : tie.Need-mul-rest
 mul-rest c = search needs
 
--- src/packing.rt:24:29
 mul-digits : tie.Need-mul-digits
 mul-digits c = search needs
 
--- src/packing.rt:24:21
 shl-digits : tie.Need-shl-digits
 shl-digits c = search needs
 
--- src/packing.rt:24:19
 shr-digits : tie.Need-shr-digits
 shr-digits c = search needs
 
--- src/packing.rt:24:18
 shl-digits-2 : tie.Need-shl-digits-2
 shl-digits-2 c = search needs
 
--- src/packing.rt:19:1
 returns : tie.Need-returns
 returns c = packed-at-once (c .before .args .depth) (c .before .args .length) (c .before .args .key) (c .stored .result) (c .stored .ensures) (c .before .pre)
 

@@ -1,23 +1,30 @@
-use mathlib.Core.Path.{_≡_, refl, sym, ap, _∙_}
+-- `survey_ref` and `survey_node` call each other: with each node the walk depth rises. Before each child `survey_node` stands where `Joined` says.
+-- Both rest on the laws of turns. Assumes nothing.
+use mathlib.Core.Path.{_≡_, refl}
 use mathlib.Core.Logic.{⊎-elim}
 use Prim.Native.Nat.{ℕ, _+_, _-_, _*_, _<_}
 use native.Mathlib.Omega.{arith}
 use borrow.Author.Needs.{needs}
+use borrow.Fn.Kinds.{In, Out}
+use borrow.Fn.PlainCycle.{Measures, is, falls, and}
 use lib.ListN.{length-set}
+use Rattle.pool.proofs.reference.Kinds as reference-kinds
+use Rattle.pool.proofs.leaf_key.Kinds as leaf-key-kinds
+use Rattle.pool.proofs.header.Kinds as header-kinds
+use Rattle.pool.proofs.child.Kinds as child-kinds
+use Rattle.pool.proofs.child.Reads as child-reads
+use Rattle.pool.proofs.header.Reads as header-reads
+use Rattle.pool.proofs.leaf_key.Reads as leaf-key-reads
+use Rattle.pool.proofs.reference.Reads as reference-reads
 use Rattle.walk.specs.Walks.{isChild}
 use Rattle.walk.proofs.Loops.{tally-le}
-use Rattle.opening.proofs.Turns.{Joined, joined-none, joined-empty, joined-child, joined-over, node-wrong, node-again, node-few, node-over, node-judged, header-fits, ref-empty, ref-leaf, ref-node, ref-bad}
-use borrow.Fn.Kinds.{In, Out}
-use Rattle.pool.proofs.reference.Kinds as reference-kinds
-use Rattle.opening.proofs.surveying.damage.Kinds as damage-kinds
-use Rattle.pool.proofs.leaf_key.Kinds as leaf-key-kinds
-use Rattle.opening.proofs.surveying.meet_leaf.Kinds as meet-leaf-kinds
-use Rattle.pool.proofs.header.Kinds as header-kinds
 use Rattle.walk.proofs.accept.Kinds as accept-kinds
-use Rattle.pool.proofs.child.Kinds as child-kinds
+use Rattle.walk.proofs.accept.Reads as accept-reads
+use Rattle.opening.proofs.Turns.{Joined, joined-none, joined-empty, joined-child, joined-over, node-wrong, node-again, node-few, node-over, node-judged, header-fits, ref-empty, ref-leaf, ref-node, ref-bad}
+use Rattle.opening.proofs.surveying.damage.Kinds as damage-kinds
+use Rattle.opening.proofs.surveying.meet_leaf.Kinds as meet-leaf-kinds
 use Rattle.opening.proofs.surveying.join.Kinds as join-kinds
 use Rattle.opening.proofs.surveying.judge_header.Kinds as judge-header-kinds
-use borrow.Fn.PlainCycle.{Measures, is, falls, and}
 use Rattle.opening.proofs.surveying.survey_node.Reads as survey-node
 use Rattle.opening.proofs.surveying.survey_node.Kinds as survey-node-kinds
 use Rattle.opening.proofs.surveying.+survey_node+survey_ref.Lts-survey_node as survey-node-lts
@@ -28,11 +35,6 @@ use Rattle.opening.proofs.surveying.damage.Reads as damage-reads
 use Rattle.opening.proofs.surveying.join.Reads as join-reads
 use Rattle.opening.proofs.surveying.judge_header.Reads as judge-header-reads
 use Rattle.opening.proofs.surveying.meet_leaf.Reads as meet-leaf-reads
-use Rattle.pool.proofs.child.Reads as child-reads
-use Rattle.pool.proofs.header.Reads as header-reads
-use Rattle.pool.proofs.leaf_key.Reads as leaf-key-reads
-use Rattle.pool.proofs.reference.Reads as reference-reads
-use Rattle.walk.proofs.accept.Reads as accept-reads
 use Rattle.opening.proofs.surveying.+survey_node+survey_ref.{statement}
 use Rattle.opening.proofs.surveying.+survey_node+survey_ref.Tie.{close}
 
@@ -72,219 +74,171 @@ survey-ref-calls t = (reference-reads.Asked, reference-reads.Learnt, damage-read
 abbrev survey-node-calls : ℕ → In 1 header-kinds.ps × Out 1 header-kinds.ps header-kinds.r × In 0 accept-kinds.ps × Out 0 accept-kinds.ps accept-kinds.r × In 0 damage-kinds.ps × Out 0 damage-kinds.ps damage-kinds.r × In 1 child-kinds.ps × Out 1 child-kinds.ps child-kinds.r × In 2 survey-ref-kinds.ps × Out 2 survey-ref-kinds.ps survey-ref-kinds.r × In 0 join-kinds.ps × Out 0 join-kinds.ps join-kinds.r × In 0 judge-header-kinds.ps × Out 0 judge-header-kinds.ps judge-header-kinds.r
 survey-node-calls t = (header-reads.Asked, header-reads.Learnt, accept-reads.Asked, accept-reads.Learnt, damage-reads.Asked, damage-reads.Learnt, child-reads.Asked, child-reads.Learnt, survey-ref-below t, survey-ref.Post, join-reads.Asked, join-reads.Learnt, judge-header-reads.Asked, judge-header-reads.Learnt)
 
--- src/surveying.rt:117:9
 survey-node-header-requires : (t : ℕ) → survey-node-lts.Need-header-requires (survey-node-calls t) (survey-node-at t) survey-node.Post survey-node-Inv-loop survey-node-μ-loop
 survey-node-header-requires t c κs = search needs
 
--- src/surveying.rt:118:27
 survey-node-accept-requires : (t : ℕ) → survey-node-lts.Need-accept-requires (survey-node-calls t) (survey-node-at t) survey-node.Post survey-node-Inv-loop survey-node-μ-loop
 survey-node-accept-requires t c κs = search needs
 
--- src/surveying.rt:118:22
 survey-node-enum-known-b : (t : ℕ) → survey-node-lts.Need-enum-known-b (survey-node-calls t) (survey-node-at t) survey-node.Post survey-node-Inv-loop survey-node-μ-loop
 survey-node-enum-known-b t c = search needs
 
--- src/surveying.rt:119:9
 survey-node-enum-told : (t : ℕ) → survey-node-lts.Need-enum-told (survey-node-calls t) (survey-node-at t) survey-node.Post survey-node-Inv-loop survey-node-μ-loop
 survey-node-enum-told t c = search needs
 
--- src/surveying.rt:119:9
 survey-node-damage-requires : (t : ℕ) → survey-node-lts.Need-damage-requires (survey-node-calls t) (survey-node-at t) survey-node.Post survey-node-Inv-loop survey-node-μ-loop
 survey-node-damage-requires t c κs = search needs
 
--- src/surveying.rt:119:9
 survey-node-returns : (t : ℕ) → survey-node-lts.Need-returns (survey-node-calls t) (survey-node-at t) survey-node.Post survey-node-Inv-loop survey-node-μ-loop
-survey-node-returns t c = 
+survey-node-returns t c =
     let a = c .before .before .before .before .before .before .before .args in
     rw (c .damage .ensures) (node-wrong (a .pool .now) (a .n) (a .w) (a .j) (a .map .now) (c .before .before .before .before .header .ensures) (c .before .before .before .accept .ensures .0) _ (c .before .enum-told .given .1) refl)
 
--- src/surveying.rt:121:12
 survey-node-add-if1 : (t : ℕ) → survey-node-lts.Need-add-if1 (survey-node-calls t) (survey-node-at t) survey-node.Post survey-node-Inv-loop survey-node-μ-loop
 survey-node-add-if1 t c = search needs
 
--- src/surveying.rt:121:8
 survey-node-slice-read-if1 : (t : ℕ) → survey-node-lts.Need-slice-read-if1 (survey-node-calls t) (survey-node-at t) survey-node.Post survey-node-Inv-loop survey-node-μ-loop
 survey-node-slice-read-if1 t c = search needs
 
--- src/surveying.rt:122:9
 survey-node-damage-requires-2 : (t : ℕ) → survey-node-lts.Need-damage-requires-2 (survey-node-calls t) (survey-node-at t) survey-node.Post survey-node-Inv-loop survey-node-μ-loop
 survey-node-damage-requires-2 t c κs = search needs
 
--- src/surveying.rt:122:9
 survey-node-returns-2 : (t : ℕ) → survey-node-lts.Need-returns-2 (survey-node-calls t) (survey-node-at t) survey-node.Post survey-node-Inv-loop survey-node-μ-loop
-survey-node-returns-2 t c = 
+survey-node-returns-2 t c =
     let a = c .before .before .before .before .before .before .before .before .before .before .args in
     rw (c .damage2 .ensures) (node-again (a .pool .now) (a .n) (a .w) (a .j) (a .map .now) (c .before .before .before .before .before .before .before .header .ensures) (c .before .before .before .before .before .before .accept .ensures .0) _ (c .before .before .before .before .b .given .1) _ (c .before .if1 .taken) refl)
 
--- src/surveying.rt:124:19
 survey-node-add-map : (t : ℕ) → survey-node-lts.Need-add-map (survey-node-calls t) (survey-node-at t) survey-node.Post survey-node-Inv-loop survey-node-μ-loop
 survey-node-add-map t c = search needs
 
--- src/surveying.rt:124:18
 survey-node-cast-map : (t : ℕ) → survey-node-lts.Need-cast-map (survey-node-calls t) (survey-node-at t) survey-node.Post survey-node-Inv-loop survey-node-μ-loop
 survey-node-cast-map t c = search needs
 
--- src/surveying.rt:124:9
 survey-node-add-map-2 : (t : ℕ) → survey-node-lts.Need-add-map-2 (survey-node-calls t) (survey-node-at t) survey-node.Post survey-node-Inv-loop survey-node-μ-loop
 survey-node-add-map-2 t c = search needs
 
--- src/surveying.rt:124:5
 survey-node-slice-write-map : (t : ℕ) → survey-node-lts.Need-slice-write-map (survey-node-calls t) (survey-node-at t) survey-node.Post survey-node-Inv-loop survey-node-μ-loop
 survey-node-slice-write-map t c = search needs
 
--- src/surveying.rt:135:5
 survey-node-loop-holds : (t : ℕ) → survey-node-lts.Need-loop-holds (survey-node-calls t) (survey-node-at t) survey-node.Post survey-node-Inv-loop survey-node-μ-loop
 survey-node-loop-holds t c = joined-none _ _ _ _ _ (simp length-set (c .before .before .before .before .before .before .before .before .before .pre .1 .1))
 
--- src/surveying.rt:136:13
 survey-node-child-requires : (t : ℕ) → survey-node-lts.Need-child-requires (survey-node-calls t) (survey-node-at t) survey-node.Post survey-node-Inv-loop survey-node-μ-loop
 survey-node-child-requires t c κs = search needs
 
--- src/surveying.rt:138:51
 survey-node-add-survey-ref : (t : ℕ) → survey-node-lts.Need-add-survey-ref (survey-node-calls t) (survey-node-at t) survey-node.Post survey-node-Inv-loop survey-node-μ-loop
 survey-node-add-survey-ref t c = let h = rw (c .before .before .before .before .before .before .before .b .given .1) at (c .before .before .before .before .before .before .before .before .before .accept .ensures .1) in omega arith
 
--- src/surveying.rt:138:31
 survey-node-survey-ref-requires : (t : ℕ) → survey-node-lts.Need-survey-ref-requires (survey-node-calls t) (survey-node-at t) survey-node.Post survey-node-Inv-loop survey-node-μ-loop
-survey-node-survey-ref-requires t c κs = 
+survey-node-survey-ref-requires t c κs =
     let h = rw (c .before .before .before .before .before .before .before .before .b .given .1) at (c .before .before .before .before .before .before .before .before .before .before .accept .ensures .1) in
     (omega arith, (c .before .before .before .before .before .before .before .before .before .before .before .before .before .before .pre .1 .0, c .before .before .before .before .loop .inv .long, omega arith, c .before .if2 .taken))
 
--- src/surveying.rt:138:13
 survey-node-join-requires : (t : ℕ) → survey-node-lts.Need-join-requires (survey-node-calls t) (survey-node-at t) survey-node.Post survey-node-Inv-loop survey-node-μ-loop
 survey-node-join-requires t c κs = search needs
 
--- src/surveying.rt:140:17
 survey-node-damage-requires-3 : (t : ℕ) → survey-node-lts.Need-damage-requires-3 (survey-node-calls t) (survey-node-at t) survey-node.Post survey-node-Inv-loop survey-node-μ-loop
 survey-node-damage-requires-3 t c κs = search needs
 
--- src/surveying.rt:140:17
 survey-node-same-length : (t : ℕ) → survey-node-lts.Need-same-length (survey-node-calls t) (survey-node-at t) survey-node.Post survey-node-Inv-loop survey-node-μ-loop
 survey-node-same-length t c = omega (arith, c .before .before .before .before .before .before .before .before .before .before .before .loop .inv .long, c .before .before .before .before .before .before .before .before .before .before .before .before .before .before .before .before .before .before .before .before .before .pre .1 .1)
 
--- src/surveying.rt:140:17
 survey-node-returns-3 : (t : ℕ) → survey-node-lts.Need-returns-3 (survey-node-calls t) (survey-node-at t) survey-node.Post survey-node-Inv-loop survey-node-μ-loop
-survey-node-returns-3 t c = 
+survey-node-returns-3 t c =
     let a = c .before .before .before .before .before .before .before .before .before .before .before .before .before .before .before .before .before .before .before .before .before .args in
     let o = joined-over _ _ _ _ _ (c .before .before .before .before .before .before .before .before .before .before .before .loop .inv) (c .before .before .before .before .before .before .before .before .before .before .loop-test .taken) (c .before .before .before .before .before .before .before .before .before .child .ensures) (c .before .before .before .before .before .before .before .before .if2 .taken) (c .before .before .before .before .before .before .survey-ref .ensures) (c .before .before .before .join .ensures) (c .before .if3 .taken) in
     rw (c .damage3 .ensures) (node-over (a .pool .now) (a .n) (a .w) (a .j) (a .map .now) (c .before .before .before .before .before .before .before .before .before .before .before .before .before .before .before .before .before .before .header .ensures) (c .before .before .before .before .before .before .before .before .before .before .before .before .before .before .before .before .before .accept .ensures .0) _ (c .before .before .before .before .before .before .before .before .before .before .before .before .before .before .before .b .given .1) (c .before .before .before .before .before .before .before .before .before .before .before .before .if1 .left) _ _ o refl)
 
--- src/surveying.rt:142:13
 survey-node-add-children : (t : ℕ) → survey-node-lts.Need-add-children (survey-node-calls t) (survey-node-at t) survey-node.Post survey-node-Inv-loop survey-node-μ-loop
 survey-node-add-children t c = omega (arith, c .before .before .before .before .before .before .before .before .before .before .loop .inv .counted, tally-le (isChild (c .before .before .before .before .before .before .before .before .before .before .before .before .before .before .before .before .before .before .before .before .args .pool .now) (c .before .before .before .before .before .before .before .before .before .before .before .before .before .before .before .before .before .before .before .before .args .n) (c .before .before .before .before .before .before .before .before .before .before .before .before .before .before .before .before .before .before .before .before .args .j)) (c .before .before .before .before .before .before .before .before .before .before .loop .c))
 
--- src/surveying.rt:144:9
 survey-node-add-c : (t : ℕ) → survey-node-lts.Need-add-c (survey-node-calls t) (survey-node-at t) survey-node.Post survey-node-Inv-loop survey-node-μ-loop
 survey-node-add-c t c = search needs
 
--- src/surveying.rt:135:5
 survey-node-loop-less : (t : ℕ) → survey-node-lts.Need-loop-less (survey-node-calls t) (survey-node-at t) survey-node.Post survey-node-Inv-loop survey-node-μ-loop
 survey-node-loop-less t c = search needs
 
--- src/surveying.rt:135:5
 survey-node-loop-again : (t : ℕ) → survey-node-lts.Need-loop-again (survey-node-calls t) (survey-node-at t) survey-node.Post survey-node-Inv-loop survey-node-μ-loop
-survey-node-loop-again t c = 
+survey-node-loop-again t c =
     let l = c .before .before .before .loop in
     ⊎-elim (λ w. rw (w .8, w .9, w .10) (joined-child _ _ _ _ _ (l .inv) (c .before .before .loop-test .taken) (c .before .child .ensures) (w .0 .taken) (w .2 .ensures) (w .5 .ensures) (w .7 .left) (omega arith)))
-        (λ w. rw (w .1, w .2, w .3) (joined-empty _ _ _ _ _ (l .inv) (c .before .before .loop-test .taken) (c .before .child .ensures) (w .0 .left))) (c .if2 .came)
+    (λ w. rw (w .1, w .2, w .3) (joined-empty _ _ _ _ _ (l .inv) (c .before .before .loop-test .taken) (c .before .child .ensures) (w .0 .left))) (c .if2 .came)
 
--- src/surveying.rt:147:9
 survey-node-damage-requires-4 : (t : ℕ) → survey-node-lts.Need-damage-requires-4 (survey-node-calls t) (survey-node-at t) survey-node.Post survey-node-Inv-loop survey-node-μ-loop
 survey-node-damage-requires-4 t c κs = search needs
 
--- src/surveying.rt:147:9
 survey-node-same-length-2 : (t : ℕ) → survey-node-lts.Need-same-length-2 (survey-node-calls t) (survey-node-at t) survey-node.Post survey-node-Inv-loop survey-node-μ-loop
 survey-node-same-length-2 t c = search needs
 
--- src/surveying.rt:147:9
 survey-node-returns-4 : (t : ℕ) → survey-node-lts.Need-returns-4 (survey-node-calls t) (survey-node-at t) survey-node.Post survey-node-Inv-loop survey-node-μ-loop
-survey-node-returns-4 t c = 
+survey-node-returns-4 t c =
     let a = c .before .before .before .before .before .before .before .before .before .before .before .before .before .args in
     let e : c .before .before .before .loop .c ≡ 16 = omega arith in
     rw (c .damage4 .ensures) (node-few (a .pool .now) (a .n) (a .w) (a .j) (a .map .now) (c .before .before .before .before .before .before .before .before .before .before .header .ensures) (c .before .before .before .before .before .before .before .before .before .accept .ensures .0) _ (c .before .before .before .before .before .before .before .b .given .1) _ _ (rw e at (c .before .before .before .loop .inv .counted)) (c .before .if4 .taken) refl)
 
--- src/surveying.rt:149:5
 survey-node-judge-header-requires : (t : ℕ) → survey-node-lts.Need-judge-header-requires (survey-node-calls t) (survey-node-at t) survey-node.Post survey-node-Inv-loop survey-node-μ-loop
 survey-node-judge-header-requires t c κs = header-fits _ _ (c .before .before .before .before .before .before .before .before .accept .ensures .0) (c .before .before .before .before .before .before .b .given .1)
 
--- src/surveying.rt:113:1
 survey-node-same-length-3 : (t : ℕ) → survey-node-lts.Need-same-length-3 (survey-node-calls t) (survey-node-at t) survey-node.Post survey-node-Inv-loop survey-node-μ-loop
 survey-node-same-length-3 t c = search needs
 
--- src/surveying.rt:113:1
 survey-node-returns-5 : (t : ℕ) → survey-node-lts.Need-returns-5 (survey-node-calls t) (survey-node-at t) survey-node.Post survey-node-Inv-loop survey-node-μ-loop
-survey-node-returns-5 t c = 
+survey-node-returns-5 t c =
     let a = c .before .before .before .before .before .before .before .before .before .before .before .before .before .args in
     let e : c .before .before .before .loop .c ≡ 16 = omega arith in
     node-judged (a .pool .now) (a .n) (a .w) (a .j) (a .map .now) (c .before .before .before .before .before .before .before .before .before .before .header .ensures) (c .before .before .before .before .before .before .before .before .before .accept .ensures .0) _ (c .before .before .before .before .before .before .before .b .given .1) (c .before .before .before .before .if1 .left) (rw e at (c .before .before .before .loop .inv)) (c .before .if4 .left) (c .judge-header .ensures)
 
--- src/surveying.rt:104:11
 survey-ref-reference-requires : (t : ℕ) → survey-ref-lts.Need-reference-requires (survey-ref-calls t) (survey-ref-at t) survey-ref.Post
 survey-ref-reference-requires t c κs = search needs
 
--- src/surveying.rt:105:23
 survey-ref-enum-told : (t : ℕ) → survey-ref-lts.Need-enum-told (survey-ref-calls t) (survey-ref-at t) survey-ref.Post
 survey-ref-enum-told t c = search needs
 
--- src/surveying.rt:105:23
 survey-ref-damage-requires : (t : ℕ) → survey-ref-lts.Need-damage-requires (survey-ref-calls t) (survey-ref-at t) survey-ref.Post
 survey-ref-damage-requires t c κs = search needs
 
--- src/surveying.rt:106:19
 survey-ref-enum-known-i : (t : ℕ) → survey-ref-lts.Need-enum-known-i (survey-ref-calls t) (survey-ref-at t) survey-ref.Post
 survey-ref-enum-known-i t c = search needs
 
--- src/surveying.rt:106:43
 survey-ref-leaf-key-requires : (t : ℕ) → survey-ref-lts.Need-leaf-key-requires (survey-ref-calls t) (survey-ref-at t) survey-ref.Post
 survey-ref-leaf-key-requires t c κs = (c .before .before .before .before .before .before .before .pre .1 .0, rw (c .before .before .i .given .1) at (c .before .before .before .before .reference .ensures .1))
 
--- src/surveying.rt:106:25
 survey-ref-meet-leaf-requires : (t : ℕ) → survey-ref-lts.Need-meet-leaf-requires (survey-ref-calls t) (survey-ref-at t) survey-ref.Post
 survey-ref-meet-leaf-requires t c κs = let h = rw (c .before .before .before .i .given .1) at (c .before .before .before .before .before .reference .ensures .1) in omega arith
 
--- src/surveying.rt:107:19
 survey-ref-enum-known-j : (t : ℕ) → survey-ref-lts.Need-enum-known-j (survey-ref-calls t) (survey-ref-at t) survey-ref.Post
 survey-ref-enum-known-j t c = search needs
 
--- src/surveying.rt:107:25
 survey-ref-survey-node-requires : (t : ℕ) → survey-ref-lts.Need-survey-node-requires (survey-ref-calls t) (survey-ref-at t) survey-ref.Post
 survey-ref-survey-node-requires t c κs = (omega arith, (c .before .before .before .before .before .before .before .pre .1 .0, c .before .before .before .before .before .before .before .pre .1 .1, c .before .before .before .before .before .before .before .pre .1 .2, rw (c .before .before .j .given .1) at (c .before .before .before .before .reference .ensures .1)))
 
--- src/surveying.rt:108:21
 survey-ref-enum-told-2 : (t : ℕ) → survey-ref-lts.Need-enum-told-2 (survey-ref-calls t) (survey-ref-at t) survey-ref.Post
 survey-ref-enum-told-2 t c = search needs
 
--- src/surveying.rt:108:21
 survey-ref-damage-requires-2 : (t : ℕ) → survey-ref-lts.Need-damage-requires-2 (survey-ref-calls t) (survey-ref-at t) survey-ref.Post
 survey-ref-damage-requires-2 t c κs = search needs
 
--- src/surveying.rt:100:1
 survey-ref-returns : (t : ℕ) → survey-ref-lts.Need-returns (survey-ref-calls t) (survey-ref-at t) survey-ref.Post
 survey-ref-returns t c = absurd (c .before .before .before .before .before .before .pre .1 .3 (ref-empty (c .before .before .before .before .before .before .args .pool .now) (c .before .before .before .before .before .before .args .n) (c .before .before .before .before .before .before .args .w) (c .before .before .before .before .before .before .args .r) (c .before .before .before .before .before .before .args .map .now) (c .before .before .before .reference .ensures .0) (c .before .enum-told .given .1)))
 
--- src/surveying.rt:100:1
 survey-ref-same-length : (t : ℕ) → survey-ref-lts.Need-same-length (survey-ref-calls t) (survey-ref-at t) survey-ref.Post
 survey-ref-same-length t c = search needs
 
--- src/surveying.rt:100:1
 survey-ref-returns-2 : (t : ℕ) → survey-ref-lts.Need-returns-2 (survey-ref-calls t) (survey-ref-at t) survey-ref.Post
-survey-ref-returns-2 t c = 
+survey-ref-returns-2 t c =
     let a = c .before .before .before .before .before .before .before .before .before .before .before .args in
     ref-leaf (a .pool .now) (a .n) (a .w) (a .r) (a .map .now) (c .before .before .before .before .before .before .before .before .reference .ensures .0) (c .before .before .before .before .before .before .i .given .1) (c .before .before .before .leaf-key .ensures) (c .before .before .meet-leaf .ensures)
 
--- src/surveying.rt:100:1
 survey-ref-same-length-2 : (t : ℕ) → survey-ref-lts.Need-same-length-2 (survey-ref-calls t) (survey-ref-at t) survey-ref.Post
 survey-ref-same-length-2 t c = search needs
 
--- src/surveying.rt:100:1
 survey-ref-returns-3 : (t : ℕ) → survey-ref-lts.Need-returns-3 (survey-ref-calls t) (survey-ref-at t) survey-ref.Post
-survey-ref-returns-3 t c = 
+survey-ref-returns-3 t c =
     let a = c .before .before .before .before .before .before .before .before .before .before .args in
     ref-node (a .pool .now) (a .n) (a .w) (a .r) (a .map .now) (c .before .before .before .before .before .before .before .reference .ensures .0) (c .before .before .before .before .before .j .given .1) (c .before .before .survey-node .ensures)
 
--- src/surveying.rt:100:1
 survey-ref-returns-4 : (t : ℕ) → survey-ref-lts.Need-returns-4 (survey-ref-calls t) (survey-ref-at t) survey-ref.Post
-survey-ref-returns-4 t c = 
+survey-ref-returns-4 t c =
     let a = c .before .before .before .before .before .before .args in
     rw (c .damage2 .ensures) (ref-bad (a .pool .now) (a .n) (a .w) (a .r) (a .map .now) (c .before .before .before .reference .ensures .0) _ (c .before .enum-told2 .given .1) refl)
 

@@ -1,51 +1,37 @@
+-- `join` goes by the definition's tests, in their order. Assumes nothing.
 use mathlib.Core.Path.{_∙_}
-use Rattle.opening.proofs.Turns.{join-damaged, join-turned, join-first, join-more}
 use borrow.Author.Needs.{needs}
+use Rattle.opening.proofs.Turns.{join-damaged, join-turned, join-first, join-more}
 use Rattle.opening.proofs.surveying.join.Statement.{statement}
 use Rattle.opening.proofs.surveying.join.Tie as tie
-use Rattle.opening.proofs.surveying.join.Reads as reads
-use Rattle.opening.proofs.surveying.join.Lts as lts
-use Rattle.digits.proofs.digit.Reads as digit-reads
-use Rattle.digits.proofs.first_diff.Reads as first-diff-reads
-use Rattle.opening.proofs.surveying.gathered.Reads as gathered-reads
 
--- src/surveying.rt:75:9
 gathered-requires : tie.Need-gathered-requires
 gathered-requires c κs = search needs
 
--- src/surveying.rt:75:9
 returns : tie.Need-returns
 returns c = c .gathered .ensures ∙ join-damaged _ _ _ _ (c .before .if1 .taken)
 
--- src/surveying.rt:77:8
 digit-requires : tie.Need-digit-requires
 digit-requires c κs = search needs
 
--- src/surveying.rt:78:9
 gathered-requires-2 : tie.Need-gathered-requires-2
 gathered-requires-2 c κs = search needs
 
--- src/surveying.rt:78:9
 returns-2 : tie.Need-returns-2
 returns-2 c = c .gathered2 .ensures ∙ join-turned _ _ _ _ (c .before .before .before .if1 .left) (c .before .before .digit .ensures) (c .before .if2 .taken)
 
--- src/surveying.rt:82:9
 gathered-requires-3 : tie.Need-gathered-requires-3
 gathered-requires-3 c κs = search needs
 
--- src/surveying.rt:82:9
 returns-3 : tie.Need-returns-3
 returns-3 c = c .gathered3 .ensures ∙ join-first _ _ _ _ (c .before .before .before .before .if1 .left) (c .before .before .before .digit .ensures) (c .before .before .if2 .left) (c .before .if3 .taken)
 
--- src/surveying.rt:84:25
 first-diff-requires : tie.Need-first-diff-requires
 first-diff-requires c κs = search needs
 
--- src/surveying.rt:84:5
 gathered-requires-4 : tie.Need-gathered-requires-4
 gathered-requires-4 c κs = search needs
 
--- src/surveying.rt:68:1
 returns-4 : tie.Need-returns-4
 returns-4 c = c .gathered4 .ensures ∙ join-more _ _ _ _ (c .before .before .before .before .before .if1 .left) (c .before .before .before .before .digit .ensures) (c .before .before .before .if2 .left) (c .before .before .if3 .left) (c .before .first-diff .ensures)
 

@@ -1,85 +1,65 @@
+-- `survey` does with the root what its reference says. Assumes nothing.
 use mathlib.Core.Path.{refl, ap}
 use mathlib.Core.Bool.{false}
 use native.Mathlib.Omega.{arith}
+use borrow.Author.Needs.{needs}
 use lib.ListN.{length, length-replicate}
 use Rattle.pool.specs.Places.{wordAt}
 use Rattle.opening.specs.Surveys.{census}
 use Rattle.opening.proofs.Turns.{ref-leaf, ref-node, ref-bad, found, found-none}
-use borrow.Author.Needs.{needs}
 use Rattle.opening.proofs.surveying.survey.Statement.{statement}
 use Rattle.opening.proofs.surveying.survey.Tie as tie
-use Rattle.opening.proofs.surveying.survey.Reads as reads
-use Rattle.opening.proofs.surveying.survey.Lts as lts
-use Rattle.opening.proofs.surveying.meet_leaf.Reads as meet-leaf-reads
-use Rattle.opening.proofs.surveying.survey_node.Reads as survey-node-reads
-use Rattle.pool.proofs.leaf_key.Reads as leaf-key-reads
-use Rattle.pool.proofs.reference.Reads as reference-reads
 
--- src/surveying.rt:157:30
 shared-slice-read-reference : tie.Need-shared-slice-read-reference
 shared-slice-read-reference c = search needs
 
--- src/surveying.rt:157:11
 reference-requires : tie.Need-reference-requires
 reference-requires c κs = search needs
 
--- src/surveying.rt:158:23
 enum-told : tie.Need-enum-told
 enum-told c = search needs
 
--- src/surveying.rt:159:19
 enum-known-i : tie.Need-enum-known-i
 enum-known-i c = search needs
 
--- src/surveying.rt:159:43
 leaf-key-requires : tie.Need-leaf-key-requires
 leaf-key-requires c κs = (c .before .before .before .before .before .before .before .before .pre .0, rw (c .before .before .i .given .1) at (c .before .before .before .before .reference .ensures .1))
 
--- src/surveying.rt:159:25
 meet-leaf-requires : tie.Need-meet-leaf-requires
-meet-leaf-requires c κs = 
+meet-leaf-requires c κs =
     let h = rw (c .before .before .before .i .given .1) at (c .before .before .before .before .before .reference .ensures .1) in
     omega (arith, simp length-replicate at (ap length (c .before .before .before .before .before .before .before .before .before .pre .1)))
 
--- src/surveying.rt:160:19
 enum-known-j : tie.Need-enum-known-j
 enum-known-j c = search needs
 
--- src/surveying.rt:160:25
 survey-node-requires : tie.Need-survey-node-requires
 survey-node-requires c κs = (c .before .before .before .before .before .before .before .before .pre .0, simp length-replicate at (ap length (c .before .before .before .before .before .before .before .before .pre .1)), omega arith, rw (c .before .before .j .given .1) at (c .before .before .before .before .reference .ensures .1))
 
--- src/surveying.rt:161:21
 enum-told-2 : tie.Need-enum-told-2
 enum-told-2 c = search needs
 
--- src/surveying.rt:153:1
 returns : tie.Need-returns
 returns c = found-none _ _ (c .before .before .before .before .before .before .pre .1) (c .before .before .reference .ensures .0) (c .enum-told .given .1)
 
--- src/surveying.rt:153:1
 same-length : tie.Need-same-length
 same-length c = search needs
 
--- src/surveying.rt:153:1
 returns-2 : tie.Need-returns-2
-returns-2 c = 
+returns-2 c =
     let a = c .before .before .before .before .before .before .before .before .before .before .before .before .args in
     found _ _ (c .before .before .before .before .before .before .before .before .before .before .before .before .pre .1) (ref-leaf (a .pool .now) (a .n) 0 (wordAt (a .pool .now) 1) (a .map .now) (c .before .before .before .before .before .before .before .before .reference .ensures .0) (c .before .before .before .before .before .before .i .given .1) (c .before .before .before .leaf-key .ensures) (c .before .before .meet-leaf .ensures))
 
--- src/surveying.rt:153:1
 same-length-2 : tie.Need-same-length-2
 same-length-2 c = search needs
 
--- src/surveying.rt:153:1
 returns-3 : tie.Need-returns-3
-returns-3 c = 
+returns-3 c =
     let a = c .before .before .before .before .before .before .before .before .before .before .before .args in
     found _ _ (c .before .before .before .before .before .before .before .before .before .before .before .pre .1) (ref-node (a .pool .now) (a .n) 0 (wordAt (a .pool .now) 1) (a .map .now) (c .before .before .before .before .before .before .before .reference .ensures .0) (c .before .before .before .before .before .j .given .1) (c .before .before .survey-node .ensures))
 
--- src/surveying.rt:153:1
 returns-4 : tie.Need-returns-4
-returns-4 c = 
+returns-4 c =
     let a = c .before .before .before .before .before .before .args in
     found _ _ (c .before .before .before .before .before .before .pre .1) (ref-bad (a .pool .now) (a .n) 0 (wordAt (a .pool .now) 1) (a .map .now) (c .before .before .reference .ensures .0) (census 0 false) (c .enum-told2 .given .1) refl)
 
