@@ -6,7 +6,7 @@ use Prim.Native.Nat.{ℕ, zero, suc, _+_, _≤_, _<_}
 use native.Mathlib.Nat.{zero-add, suc-add, not-suc-le-zero, le-of-suc-le-suc}
 use native.Mathlib.Numerals.{add-one}
 use native.Mathlib.Omega.{arith}
-use lib.ListN.{length, getD, set, take, drop, length-set, length-append, length-take, length-drop, take-append-drop, drop-of-length-le}
+use lib.ListN.{length, getD, set, take, drop, replicate, length-set, length-append, length-take, length-drop, take-append-drop, drop-of-length-le}
 use lib.Seq.{sets, length-sets, sets-eq, set-append-left, take-all, take-add, take-at, getD-drop}
 use Rattle.plan.specs.declared.Plan.{Plan}
 use Rattle.plan.specs.declared.Effect.{Effect}
@@ -24,19 +24,23 @@ copied-suc i (x ∷ s) [] hs hd = absurd (not-suc-le-zero hd)
 copied-suc zero (x ∷ s) (y ∷ d) hs hd = refl
 copied-suc (suc i) (x ∷ s) (y ∷ d) hs hd = ap (λ (l : List ℕ). x ∷ l) (copied-suc i s d (le-of-suc-le-suc hs) (le-of-suc-le-suc hd))
 
-pub copied-next : (i : ℕ) (s d : List ℕ) → i < length s → i < length d → set (copied i s d) i (getD s i 0) ≡ copied (i + 1) s d
+copied-next : (i : ℕ) (s d : List ℕ) → i < length s → i < length d → set (copied i s d) i (getD s i 0) ≡ copied (i + 1) s d
 copied-next i s d hs hd = rw add-one (copied-suc i s d hs hd)
 
-pub length-copied : (i : ℕ) (s d : List ℕ) → length s ≡ length d → length (copied i s d) ≡ length d
+length-copied : (i : ℕ) (s d : List ℕ) → length s ≡ length d → length (copied i s d) ≡ length d
 length-copied i s d e = simp (length-append, length-take, length-drop) (omega arith)
 
 -- once as many are copied as there are places, the first of s stand there
-pub copied-all : (n : ℕ) (s d : List ℕ) → length d ≤ n → copied n s d ≡ take n s
+copied-all : (n : ℕ) (s d : List ℕ) → length d ≤ n → copied n s d ≡ take n s
 copied-all n s d h = rw (drop-of-length-le d h) (append-nil _)
 
 -- a word read at n + i, n places on, is the next to be copied
 pub taken-next : (n i : ℕ) (p d : List ℕ) → n + length d ≤ length p → i < length d → set (copied i (drop n p) d) i (getD p (n + i) 0) ≡ copied (i + 1) (drop n p) d
 taken-next n i p d room h = rw (← getD-drop n p i 0) (copied-next i (drop n p) d (simp length-drop (omega arith)) h)
+
+-- once 21 are read into 21 places, they are the 21 words from n on
+pub taken-all : (n i : ℕ) (p l : List ℕ) → i ≡ 21 → l ≡ copied i (drop n p) (replicate 21 0) → l ≡ take 21 (drop n p)
+taken-all n i p l done e = e ∙ rw done (copied-all 21 (drop n p) (replicate 21 0) (omega arith))
 
 -- ---- the words of a plan
 set-past : (h l : List ℕ) (n i x : ℕ) → length h ≡ n → set (h ++ l) (n + i) x ≡ h ++ set l i x

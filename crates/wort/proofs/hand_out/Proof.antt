@@ -1,8 +1,8 @@
 -- `hand_out` writes the count and the effect, then the stores. Assumes nothing.
+use borrow.Author.Needs.{needs}
 use mathlib.Core.Path.{ap}
 use Rattle.wort.specs.Answers.{planned}
 use Rattle.wort.proofs.Laws.{laid-out}
-use borrow.Author.Needs.{needs}
 use Rattle.wort.proofs.hand_out.Statement.{statement}
 use Rattle.wort.proofs.hand_out.Tie as tie
 

@@ -1,10 +1,10 @@
 -- `lay_stores` writes a word number and a value each turn. The invariant: so many of both are written. Assumes nothing.
+use borrow.Author.Needs.{needs}
 use mathlib.Core.Path.{_≡_, _∙_}
 use Prim.Native.Nat.{_-_, _≤_}
 use native.Mathlib.Omega.{arith}
 use lib.ListN.{length, length-set}
 use Rattle.wort.proofs.Laws.{written, written-none, written-next, written-all}
-use borrow.Author.Needs.{needs}
 use Rattle.wort.proofs.lay_stores.Statement.{statement}
 use Rattle.wort.proofs.lay_stores.Tie as tie
 
@@ -54,19 +54,23 @@ loop-less : tie.Need-loop-less Inv-loop μ-loop
 loop-less c = search needs
 
 loop-again : tie.Need-loop-again Inv-loop μ-loop
-loop-again c = (
-  omega arith,
-  simp length-set (omega arith),
-  rw (c .before .before .before .loop .inv .2) (written-next (c .before .before .before .before .args .plan .now) (c .before .before .before .before .args .words .now) (c .before .before .before .before .args .values .now) (c .before .before .before .before .pre .0) (c .before .before .before .before .pre .1) (c .before .before .before .before .pre .2) (c .before .before .before .loop .i) (omega arith)),
-)
+loop-again c =
+    let at = c .before .before .before in
+    let start = c .before .before .before .before in (
+      omega arith,
+      simp length-set (omega arith),
+      rw (at .loop .inv .2) (written-next (start .args .plan .now) (start .args .words .now) (start .args .values .now) (start .pre .0) (start .pre .1) (start .pre .2) (at .loop .i) (omega arith)),
+    )
 
 same-length : tie.Need-same-length Inv-loop μ-loop
 same-length c = search needs
 
 returns : tie.Need-returns Inv-loop μ-loop
 returns c =
-    let e : c .before .loop .i ≡ 21 = omega arith in
-    c .before .loop .inv .2 ∙ rw e (written-all (c .before .before .args .plan .now) (c .before .before .args .words .now) (c .before .before .args .values .now) (c .before .before .pre .0) (c .before .before .pre .1) (c .before .before .pre .2))
+    let at = c .before in
+    let start = c .before .before in
+    let done : at .loop .i ≡ 21 = omega arith in
+    at .loop .inv .2 ∙ rw done (written-all (start .args .plan .now) (start .args .words .now) (start .args .values .now) (start .pre .0) (start .pre .1) (start .pre .2))
 
 pub lay-stores-spec : {M : Type 1} → statement M
 lay-stores-spec =

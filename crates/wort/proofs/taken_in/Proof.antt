@@ -1,10 +1,11 @@
 -- `taken_in` reads a word number and a value each turn. The invariant: so many of both are read. Assumes nothing.
-use mathlib.Core.Path.{_≡_, _∙_}
-use Prim.Native.Nat.{_-_, _≤_}
+use borrow.Author.Needs.{needs}
+use mathlib.Core.Path.{_≡_}
+use mathlib.Core.List.{List}
+use Prim.Native.Nat.{ℕ, _-_, _≤_}
 use native.Mathlib.Omega.{arith}
 use lib.ListN.{take, drop, replicate}
-use Rattle.wort.proofs.Laws.{copied, taken-next, copied-all}
-use borrow.Author.Needs.{needs}
+use Rattle.wort.proofs.Laws.{copied, taken-next, taken-all}
 use Rattle.wort.proofs.taken_in.Statement.{statement}
 use Rattle.wort.proofs.taken_in.Tie as tie
 
@@ -54,11 +55,13 @@ loop-less : tie.Need-loop-less Inv-loop μ-loop
 loop-less c = search needs
 
 loop-again : tie.Need-loop-again Inv-loop μ-loop
-loop-again c = (
-  omega arith,
-  rw (c .before .before .before .loop .inv .1) (taken-next 4 (c .before .before .before .loop .i) (c .before .before .before .before .before .args .plan .now) (replicate 21 0) (omega arith) (omega arith)),
-  rw (c .before .before .before .loop .inv .2) (taken-next 25 (c .before .before .before .loop .i) (c .before .before .before .before .before .args .plan .now) (replicate 21 0) (omega arith) (omega arith)),
-)
+loop-again c =
+    let at = c .before .before .before in
+    let p : List ℕ = c .before .before .before .before .before .args .plan .now in (
+      omega arith,
+      rw (at .loop .inv .1) (taken-next 4 (at .loop .i) p (replicate 21 0) (omega arith) (omega arith)),
+      rw (at .loop .inv .2) (taken-next 25 (at .loop .i) p (replicate 21 0) (omega arith) (omega arith)),
+    )
 
 shared-slice-read-t20 : tie.Need-shared-slice-read-t20 Inv-loop μ-loop
 shared-slice-read-t20 c = search needs
@@ -77,9 +80,10 @@ effect-in-requires c κs = search needs
 
 returns : tie.Need-returns Inv-loop μ-loop
 returns c =
-    let e : c .before .before .before .before .before .before .loop .i ≡ 21 = omega arith in
-    let w : c .before .before .before .before .before .before .loop .words ≡ take 21 (drop 4 (c .before .before .before .before .before .before .before .before .args .plan .now)) = c .before .before .before .before .before .before .loop .inv .1 ∙ rw e (copied-all 21 (drop 4 (c .before .before .before .before .before .before .before .before .args .plan .now)) (replicate 21 0) (omega arith)) in
-    let v : c .before .before .before .before .before .before .loop .values ≡ take 21 (drop 25 (c .before .before .before .before .before .before .before .before .args .plan .now)) = c .before .before .before .before .before .before .loop .inv .2 ∙ rw e (copied-all 21 (drop 25 (c .before .before .before .before .before .before .before .before .args .plan .now)) (replicate 21 0) (omega arith)) in
+    let at = c .before .before .before .before .before .before in
+    let p : List ℕ = c .before .before .before .before .before .before .before .before .args .plan .now in
+    let w : at .loop .words ≡ take 21 (drop 4 p) = taken-all 4 (at .loop .i) p _ (omega arith) (at .loop .inv .1) in
+    let v : at .loop .values ≡ take 21 (drop 25 p) = taken-all 25 (at .loop .i) p _ (omega arith) (at .loop .inv .2) in
     cc
 
 pub taken-in-spec : {M : Type 1} → statement M

@@ -1,7 +1,7 @@
 -- `wort_delete` hands out what `delete` answers. Assumes nothing.
+use borrow.Author.Needs.{needs}
 use mathlib.Core.Path.{ap}
 use Rattle.wort.specs.Answers.{storedOf}
-use borrow.Author.Needs.{needs}
 use Rattle.wort.proofs.wort_delete.Statement.{statement}
 use Rattle.wort.proofs.wort_delete.Tie as tie
 

@@ -1,6 +1,6 @@
 -- `wort_finish` refuses an effect above 4, and else finishes by the plan that the words say. Assumes nothing.
-use borrow.Author.Tests.{lt-ltb, le-ltb}
 use borrow.Author.Needs.{needs}
+use borrow.Author.Tests.{lt-ltb, le-ltb}
 use Rattle.wort.proofs.wort_finish.Statement.{statement}
 use Rattle.wort.proofs.wort_finish.Tie as tie
 

@@ -1,7 +1,7 @@
 -- `wort_list` hands out what `list` answers, and whether there is more as a number. Assumes nothing.
+use borrow.Author.Needs.{needs}
 use mathlib.Core.Path.{ap}
 use Rattle.wort.specs.Answers.{toldOf}
-use borrow.Author.Needs.{needs}
 use Rattle.wort.proofs.wort_list.Statement.{statement}
 use Rattle.wort.proofs.wort_list.Tie as tie
 

@@ -1,6 +1,6 @@
 -- `wort_lookup` hands out each case of what `lookup` answers, in the numbers that the definition gives it. Assumes nothing.
-use mathlib.Core.Path.{_∙_}
 use borrow.Author.Needs.{needs}
+use mathlib.Core.Path.{_∙_}
 use Rattle.wort.proofs.wort_lookup.Statement.{statement}
 use Rattle.wort.proofs.wort_lookup.Tie as tie
 

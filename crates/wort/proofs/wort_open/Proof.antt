@@ -1,8 +1,8 @@
 -- `wort_open` hands out what `open` answers. Assumes nothing.
+use borrow.Author.Needs.{needs}
 use mathlib.Core.Path.{ap}
 use Rattle.opening.specs.Openings.{Left}
 use Rattle.wort.specs.Answers.{opening}
-use borrow.Author.Needs.{needs}
 use Rattle.wort.proofs.wort_open.Statement.{statement}
 use Rattle.wort.proofs.wort_open.Tie as tie
 

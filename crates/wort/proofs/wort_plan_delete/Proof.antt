@@ -1,5 +1,4 @@
 -- `wort_plan_delete` hands out what `plan_delete` answers. Assumes nothing.
-use mathlib.Core.Path.{_∙_}
 use borrow.Author.Needs.{needs}
 use Rattle.wort.proofs.wort_plan_delete.Statement.{statement}
 use Rattle.wort.proofs.wort_plan_delete.Tie as tie

@@ -1,5 +1,4 @@
 -- `wort_plan_open` hands out what `plan_open` answers. Assumes nothing.
-use mathlib.Core.Path.{_∙_}
 use borrow.Author.Needs.{needs}
 use Rattle.wort.proofs.wort_plan_open.Statement.{statement}
 use Rattle.wort.proofs.wort_plan_open.Tie as tie

@@ -1,5 +1,4 @@
 -- `wort_plan_put` hands out what `plan_put` answers. Assumes nothing.
-use mathlib.Core.Path.{_∙_}
 use borrow.Author.Needs.{needs}
 use Rattle.wort.proofs.wort_plan_put.Statement.{statement}
 use Rattle.wort.proofs.wort_plan_put.Tie as tie

@@ -1,7 +1,7 @@
 -- `wort_put` hands out what `put` answers. Assumes nothing.
+use borrow.Author.Needs.{needs}
 use mathlib.Core.Path.{ap}
 use Rattle.wort.specs.Answers.{storedOf}
-use borrow.Author.Needs.{needs}
 use Rattle.wort.proofs.wort_put.Statement.{statement}
 use Rattle.wort.proofs.wort_put.Tie as tie
 
