@@ -26,4 +26,9 @@ if [ "$status" != 0 ] || ! tail -n 1 build/ci.log | grep -qE '^[0-9]+ passed, 0 
     echo "The prover refused something: see above." >&2
     exit 1
 fi
+part "tests from outside, through the C interface"
+if ! rt staticlib wort || ! (cd host && cargo test --release --locked --offline); then
+    echo "The library and the model differ, or the tests do not build: see above." >&2
+    exit 1
+fi
 tail -n 1 build/ci.log
