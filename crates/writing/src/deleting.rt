@@ -66,8 +66,8 @@ fn lift(pool: &[u64], n: usize, s: Spot, i: usize, r: u64, j: usize) -> Planned
     };
     let mut words = [0usize; 21];
     let mut values = [0u64; 21];
-    words[0] = s.over;
-    values[0] = r;
+    words[0] = s.over; // the reference first: from here the key is gone
+    values[0] = r; // and the child's header is stale, which every walk accepts
     words[1] = pool::node_word(n, j);
     values[1] = Header::pack(s.above, b - s.above, near);
     Planned {

@@ -38,9 +38,9 @@ pub fn grow(map: &[u8], n: usize, key: u64, value: u64, at: usize) -> Planned
     let mut words = [0usize; 21];
     let mut values = [0u64; 21];
     words[0] = word;
-    values[0] = key;
+    values[0] = key; // the leaf first
     words[1] = word + 1;
-    values[1] = value;
+    values[1] = value; // and whole
     words[2] = at;
     values[2] = pool::leaf_ref(leaf);
     Planned {
