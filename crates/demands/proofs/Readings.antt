@@ -34,7 +34,7 @@ use Rattle.demands.proofs.States.{State, fits, tree-names}
 
 -- ---- the map, told by slots that are reached or by the tree
 module _ (pool bytes : List ℕ) (n : ℕ) (t : Tree ℕ) (H : Held 16 n (mem pool) t) where
-  marked-exact : Marked n bytes t → Exact pool n bytes
+  pub marked-exact : Marked n bytes t → Exact pool n bytes
   marked-exact M = record {
     size = M .size;
     taken = λ x l h. reached-in-use pool n t H x (some-slot x (less? 0 (mult x t)) (λ e. h (M .taken x l e)));
@@ -95,14 +95,14 @@ state-reading {n = n} {pool = pool} {bytes = bytes} S = record {
 
 -- ---- from a reading to a state
 -- a pool of some capacity that holds a tree
-pool-is : (pool : List ℕ) (n : ℕ) (t : Tree ℕ) → capacityOf pool ≡ Holds n → Held 16 n (mem pool) t → (pos : 1 ≤ n) × (cap : n ≤ 1024) × Pool n pos cap t pool
+pub pool-is : (pool : List ℕ) (n : ℕ) (t : Tree ℕ) → capacityOf pool ≡ Holds n → Held 16 n (mem pool) t → (pos : 1 ≤ n) × (cap : n ≤ 1024) × Pool n pos cap t pool
 unfolding capacityOf
 pool-is pool n t e H =
     let sized : Sized pool n = subst (Measured pool) e (size-fits pool (getD pool 0 0)) in
     (sized .some, sized .most, record { size = sized .words; first = sym (size-same (length pool) (getD pool 0 0) n (sym e)); held = H })
 
 -- one answer is of one table
-finds-one : (a b : Option ℕ) (r : Answer) → Finds a r → Finds b r → a ≡ b
+pub finds-one : (a b : Option ℕ) (r : Answer) → Finds a r → Finds b r → a ≡ b
 finds-one none none r p q = refl
 finds-one none (some v) r p q = absurd (omega (arith, p .0, q .0))
 finds-one (some u) none r p q = absurd (omega (arith, p .0, q .0))

@@ -4,3 +4,4 @@ pub mod Demand2
 pub mod Demand3
 pub mod Cases
 pub mod Unique
+pub mod Opening

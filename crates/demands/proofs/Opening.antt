@@ -1,0 +1,99 @@
+-- An opening answers 0 just on sound pools, and leaves a straight one with the same table, an exact map, and nothing to store.
+-- Rests on what a survey sees, and on openings of a pool that holds a tree. Assumes nothing.
+use mathlib.Core.Path.{_≡_, refl, sym, ap, _∙_, subst}
+use mathlib.Core.Bool.{true}
+use mathlib.Core.Option.{Option}
+use mathlib.Core.List.{List, [], map}
+use Prim.Native.Nat.{ℕ, _+_, _-_, _≤_, _<_}
+use native.Mathlib.Omega.{arith}
+use lib.ListN.{length}
+use Rattle.pool.specs.Sizes.{capacityOf, bytesOf}
+use Rattle.pool.specs.Places.{headerAt}
+use Rattle.pool.specs.declared.Size.the-variants.{Holds}
+use Rattle.digits.specs.Headers.{depthOf}
+use Rattle.tree.specs.Tree.{Tree, node, dep, find, Stands}
+use Rattle.tree.specs.Listing.{entries}
+use Rattle.layout.specs.Layout.{Held}
+use Rattle.layout.proofs.Held.{node-slot}
+use Rattle.held.specs.Ways.{dig, mem}
+use Rattle.held.specs.Maps.{Marked}
+use Rattle.reading.specs.Lookups.{lookupOf}
+use Rattle.reading.specs.Listings.{listOf}
+use Rattle.reading.specs.Rows.{Finds, shownRows, upFrom}
+use Rattle.reading.proofs.HeldLookup.{lookup-held}
+use Rattle.reading.proofs.HeldListing.{list-held}
+use Rattle.opening.specs.Soundness.{Sound, Straight}
+use Rattle.opening.specs.Surveys.{surveyOf}
+use Rattle.opening.specs.Openings.{Left, reached, openPlan, openOf}
+use Rattle.opening.proofs.Answers.{Leaves, size, damage, done, open-leaves}
+use Rattle.opening.proofs.SoundTree.{sound-held}
+use Rattle.opening.proofs.HeldMends.{M}
+use Rattle.opening.proofs.HeldOpens.{Pool, capacity-is, end, all-mended, none-left, reached-marked, open-is}
+use Rattle.opening.proofs.SoundHeld.{held-is-sound, sound-capacity, straight-if, sound-holds}
+use Rattle.demands.specs.Tables.{Table, Reads, Exact}
+use Rattle.demands.specs.Opening.{Restored, Opens}
+use Rattle.demands.proofs.Readings.{marked-exact, pool-is, finds-one}
+
+module _ (pool : List ℕ) (n : ℕ) (pos : 1 ≤ n) (cap : n ≤ 1024) (t : Tree ℕ) (P : Pool n pos cap t pool) where
+  -- the pool after an opening
+  abbrev mended : List ℕ
+  mended = end n pos cap t pool P .pool
+
+  P′ : Pool n pos cap t mended
+  P′ = all-mended n pos cap t pool P .pool
+
+  fits : capacityOf pool ≡ Holds n
+  fits = capacity-is n pos cap t pool P
+
+  fits′ : capacityOf mended ≡ Holds n
+  fits′ = capacity-is n pos cap t mended P′
+
+  mended-straight : Straight mended
+  mended-straight = straight-if mended n t fits′ (P′ .held) depths
+    where
+      depths : (π : List ℕ) (x b s : ℕ) (kids : ℕ → Tree ℕ) → Stands π (node x b s kids) t → depthOf (headerAt mended n (x - n)) ≡ dep π 0 t
+      depths π x b s kids st =
+          let slot = node-slot 16 n (mem mended) t (P′ .held) π x b s kids st in
+          let back : x ≡ n + (x - n) = omega (arith, slot) in
+          all-mended n pos cap t pool P .straight (x - n) (omega (arith, slot)) (omega (arith, slot))
+          (record { π = π; b = b; s = s; kids = kids; stands = subst (λ (y : ℕ). Stands π (node y b s kids) t) back st })
+
+  -- both hold the same tree, so a table that one reads as the other reads as
+  mended-reads : (T : Table) → Reads pool T → Reads mended T
+  mended-reads T r = record {
+    lookup = λ k.
+        subst (λ (o : Option ℕ). Finds o (lookupOf mended k)) (sym (finds-one (T k) (find dig k t) (lookupOf pool k) (r .lookup k) (lookup-held pool n t fits (P .held) k)))
+        (lookup-held mended n t fits′ (P′ .held) k);
+    rows = r .rows;
+    written = r .written;
+    listing = λ from ks vs a b. list-held mended n t fits′ (P′ .held) from ks vs a b ∙ sym (list-held pool n t fits (P .held) from ks vs a b) ∙ r .listing from ks vs a b;
+  }
+
+  restored : (bytes : List ℕ) → length bytes ≡ bytesOf n → Restored pool bytes
+  restored bytes e =
+      let s : Sound pool = held-is-sound pool n t fits (P .held) in
+      let o = open-is n pos cap t pool P bytes e in
+      record {
+        before = s;
+        after = rw o mended-straight;
+        exact = rw o (subst (λ (m : ℕ). Exact mended m (map reached (M n pos cap t))) (sym (sound-capacity pool n s fits)) (marked-exact mended (map reached (M n pos cap t)) n t (P′ .held) (reached-marked n pos cap t pool P)));
+        same = λ T r. rw o (mended-reads T r);
+        again = rw o (none-left n pos cap t pool P);
+      }
+
+pub opens : Opens
+opens = record {
+  restores = λ pool bytes z. go pool bytes (open-leaves pool bytes) z;
+  accepts = λ pool bytes s e.
+      let H = sound-holds pool s in
+      let P = pool-is pool (s .n) (H .0) (s .size) (H .1) in
+      ap (λ (l : Left). l .answer .number) (open-is (s .n) (P .0) (P .1) (H .0) pool (P .2) bytes e);
+}
+  where
+    go : (pool bytes : List ℕ) {x : Left} → Leaves pool bytes x → x .answer .number ≡ 0 → Restored pool bytes
+    go pool bytes size z = absurd (omega (arith, z))
+    go pool bytes (damage n J) z = absurd (omega (arith, z))
+    go pool bytes (done n J) z =
+        let H = sound-held pool n (J .judged) in
+        let P = pool-is pool n (H .0) (J .size) (H .1) in
+        restored pool n (P .0) (P .1) (H .0) (P .2) bytes (J .long)
