@@ -1,0 +1,5 @@
+pub mod Bytes
+pub mod Numbers
+pub mod Lines
+pub mod Turns
+pub mod Answers
