@@ -1,3 +1,4 @@
 pub mod Numbers
 pub mod Commands
 pub mod Texts
+pub mod Examples

@@ -1,36 +1,37 @@
 -- The bytes that lines and answers are made of, by name.
 -- Assumes nothing.
+use Prim.Native.Char.{code}
 use Prim.Native.Nat.{ℕ}
 
 abbrev pub tab : ℕ
-tab = 9
+tab = code "\t"
 
 abbrev pub newline : ℕ
-newline = 10
+newline = code "\n"
 
 abbrev pub nought : ℕ
-nought = 48
+nought = code "0"
 
 abbrev pub query : ℕ
-query = 63
+query = code "?"
 
 abbrev pub letter-C : ℕ
-letter-C = 67
+letter-C = code "C"
 
 abbrev pub letter-D : ℕ
-letter-D = 68
+letter-D = code "D"
 
 abbrev pub letter-E : ℕ
-letter-E = 69
+letter-E = code "E"
 
 abbrev pub letter-G : ℕ
-letter-G = 71
+letter-G = code "G"
 
 abbrev pub letter-L : ℕ
-letter-L = 76
+letter-L = code "L"
 
 abbrev pub letter-P : ℕ
-letter-P = 80
+letter-P = code "P"
 
 abbrev pub letter-a : ℕ
-letter-a = 97
+letter-a = code "a"

@@ -2,4 +2,5 @@ pub mod Bytes
 pub mod Numbers
 pub mod Lines
 pub mod Turns
+pub mod Input
 pub mod Answers
