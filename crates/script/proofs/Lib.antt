@@ -1,0 +1,4 @@
+pub mod Numbers
+pub mod Commands
+pub mod Texts
+pub mod Examples

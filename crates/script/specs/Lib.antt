@@ -1,0 +1,6 @@
+pub mod Bytes
+pub mod Numbers
+pub mod Lines
+pub mod Turns
+pub mod Input
+pub mod Answers
