@@ -30,7 +30,7 @@ use Rattle.opening.specs.declared.mending.Opened.{Opened}
 use Rattle.opening.specs.Surveys.{surveyOf}
 use Rattle.opening.specs.Openings.{depthMarked, stale, mendWith, mendAt, mendOf, firstStale, mendFirst, openIn, openPlan, Mended, mendNode, mended, reached, opened, Left, left, restored, leftIn, openOf}
 use Rattle.opening.proofs.Loops.{pick-both}
-use Rattle.opening.proofs.Openings.{mend-few, bytes-flat, few-keys}
+use Rattle.opening.proofs.Openings.{at-most-one-store, bytes-flat, few-keys}
 use Rattle.opening.proofs.Marks.{survey-length}
 
 -- a run that has a capacity fits it
@@ -66,17 +66,14 @@ module _ (pool : List ℕ) where
   unfolding Words
   first-inside n z marks = go (ltb (firstStale pool n marks) (n - 1)) refl
     where
-      j : ℕ
-      j = firstStale pool n marks
-
-      go : (t : Bool) → ltb (firstStale pool n marks) (n - 1) ≡ t → Words (λ x. x < length pool) (pick t (mendOf pool n (depthMarked marks n (firstStale pool n marks)) (firstStale pool n marks)) [])
+      go : (t : Bool) → ltb (firstStale pool n marks) (n - 1) ≡ t
+          → Words (λ x. x < length pool) (pick t (mendOf pool n (depthMarked marks n (firstStale pool n marks)) (firstStale pool n marks)) [])
       go true e = mend-inside n _ _ (omega (arith, ltb-true (firstStale pool n marks) (n - 1) e))
       go false e = tt
 
   first-few : (n : ℕ) (marks : List ℕ) → length (mendFirst pool n marks) ≤ 1
   first-few n marks =
-      let P : List Store → Type 0 = λ σ. length σ ≤ 1 in
-      pick-both P (ltb (firstStale pool n marks) (n - 1)) (mend-few pool n (depthMarked marks n (firstStale pool n marks)) (firstStale pool n marks)) (omega arith)
+      pick-both (λ (σ : List Store). length σ ≤ 1) (ltb (firstStale pool n marks) (n - 1)) (at-most-one-store pool n (depthMarked marks n (firstStale pool n marks)) (firstStale pool n marks)) (omega arith)
 
   pub plan-modest : Modest pool (openPlan pool)
   unfolding openPlan Words
@@ -96,13 +93,11 @@ module _ (pool : List ℕ) where
 module _ (n : ℕ) (marks pool : List ℕ) where
   node-length : (j : ℕ) (v : Mended) → length (mendNode n marks j v .pool) ≡ length (v .pool)
   node-length j v =
-      let P : Mended → Type 0 = λ u. length (u .pool) ≡ length (v .pool) in
-      pick-both P (stale (v .pool) n marks j) (length-made (mendOf (v .pool) n (depthMarked marks n j) j) (v .pool)) refl
+      pick-both (λ (u : Mended). length (u .pool) ≡ length (v .pool)) (stale (v .pool) n marks j) (length-made (mendOf (v .pool) n (depthMarked marks n j) j) (v .pool)) refl
 
   node-few : (j : ℕ) (v : Mended) → mendNode n marks j v .headers ≤ v .headers + 1
   node-few j v =
-      let P : Mended → Type 0 = λ u. u .headers ≤ v .headers + 1 in
-      pick-both P (stale (v .pool) n marks j) (omega (arith, mend-few (v .pool) n (depthMarked marks n j) j)) (omega arith)
+      pick-both (λ (u : Mended). u .headers ≤ v .headers + 1) (stale (v .pool) n marks j) (omega (arith, at-most-one-store (v .pool) n (depthMarked marks n j) j)) (omega arith)
 
   pub mended-length : (i : ℕ) → length (mended n marks i pool .pool) ≡ length pool
   unfolding upto

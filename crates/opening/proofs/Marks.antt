@@ -56,7 +56,8 @@ module _ (pool : List ℕ) (n : ℕ) where
   unfolding leafMet
   leaf-marking i key v l = go (eqb (getD (v .marks) i 0) 0) refl
     where
-      go : (t : Bool) → eqb (getD (v .marks) i 0) 0 ≡ t → Marking n (v .marks) (pick t (survey (set (v .marks) i 1) (census key true)) (survey (v .marks) (census (v .census .last) false)) .marks)
+      go : (t : Bool) → eqb (getD (v .marks) i 0) 0 ≡ t
+          → Marking n (v .marks) (pick t (survey (set (v .marks) i 1) (census key true)) (survey (v .marks) (census (v .census .last) false)) .marks)
       go true e = leaf i l (eqb-true (getD (v .marks) i 0) 0 e) none
       go false e = none
 
@@ -65,12 +66,12 @@ module _ (pool : List ℕ) (n : ℕ) where
     unfolding upto
     kids-marking j b g =
         let P : Gathered → Type 0 = λ x. Marking n (g .marks) (x .marks) in
-        upto-keeps (kidOf go pool n j b) g P (λ c x p. pick-both P (eqb (childAt pool n j c) 0) p (and-then p (marks (b + 1) (childAt pool n j c) (survey (x .marks) (x .sum .census))))) 0 16 (omega arith) none
+        upto-keeps (kidOf go pool n j b) g P
+        (λ c x p. pick-both P (eqb (childAt pool n j c) 0) p (and-then p (marks (b + 1) (childAt pool n j c) (survey (x .marks) (x .sum .census))))) 0 16 (omega arith) none
 
     node-marking : (w j : ℕ) (v : Survey) → j + 1 < n → (h : Head) → Between w h → Marking n (v .marks) (nodeMet go pool n w j h v .marks)
     node-marking w j v l (Branch b) g =
-        let P : Survey → Type 0 = λ x. Marking n (v .marks) (x .marks) in
-        pick-both P (ltb (childrenOf pool n j) 2) none (met (eqb (getD (v .marks) (n + j) 0) 0) refl)
+        pick-both (λ (x : Survey). Marking n (v .marks) (x .marks)) (ltb (childrenOf pool n j) 2) none (met (eqb (getD (v .marks) (n + j) 0) 0) refl)
       where
         kids : Gathered
         kids = upto 16 (kidOf go pool n j b) (gathered (set (v .marks) (n + j) (w + 1)) (gather (v .census) 0 false))
@@ -82,8 +83,7 @@ module _ (pool : List ℕ) (n : ℕ) where
 
   ref-marking : (f w r : ℕ) (v : Survey) → ((j : ℕ) → j + 1 < n → Marking n (v .marks) (nodeFrom pool n f w j v .marks)) → Marking n (v .marks) (surveyFrom f pool n w r v .marks)
   ref-marking f w r v below =
-      let P : Survey → Type 0 = λ x. Marking n (v .marks) (x .marks) in
-      rw (survey-turn pool n f w r v) (pick-both P (v .census .sound) (at (refOf n r) (within n r)) none)
+      rw (survey-turn pool n f w r v) (pick-both (λ (x : Survey). Marking n (v .marks) (x .marks)) (v .census .sound) (at (refOf n r) (within n r)) none)
     where
       at : (x : Ref) → Within n x → Marking n (v .marks) (refMet (nodeFrom pool n f w) pool n x v .marks)
       at Empty l = none

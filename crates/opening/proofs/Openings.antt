@@ -99,9 +99,8 @@ module _ (pool : List ℕ) (n : ℕ) (marks : List ℕ) where
   first-at j e h = rw (← e, lt-ltb j (n - 1) (omega arith))
 
 -- ---- one node mended
--- at most one store
-pub mend-few : (pool : List ℕ) (n w j : ℕ) → length (mendOf pool n w j) ≤ 1
-mend-few pool n w j = go (headOf w (headerAt pool n j))
+pub at-most-one-store : (pool : List ℕ) (n w j : ℕ) → length (mendOf pool n w j) ≤ 1
+at-most-one-store pool n w j = go (headOf w (headerAt pool n j))
   where
     low : (b : ℕ) (l : Lowest) → length (mendWith n w j b l) ≤ 1
     low b (Key k) = omega arith
@@ -129,13 +128,12 @@ module _ (n : ℕ) (marks : List ℕ) (j : ℕ) (pool : List ℕ) {t : Bool} (is
         rw (← is, not-false t needed, ← depth, ← e) (ap (λ (z : After). mends (z .left) 1) m)
 
 -- ---- all of them
-pub mend-counts : (n : ℕ) (marks : List ℕ) (j : ℕ) (pool : List ℕ) → mendNode n marks j (mends pool 0) .headers ≤ 1
-mend-counts n marks j pool =
-    let P : Mended → Type 0 = λ v. v .headers ≤ 1 in
-    let w = depthMarked marks n j in
-    pick-both P (stale pool n marks j) (omega (arith, mend-few pool n w j)) (omega arith)
+pub at-most-one-header : (n : ℕ) (marks : List ℕ) (j : ℕ) (pool : List ℕ) → mendNode n marks j (mends pool 0) .headers ≤ 1
+at-most-one-header n marks j pool =
+    pick-both (λ (v : Mended). v .headers ≤ 1) (stale pool n marks j) (omega (arith, at-most-one-store pool n (depthMarked marks n j) j)) (omega arith)
 
-mend-on : (n : ℕ) (marks : List ℕ) (j h : ℕ) (pool : List ℕ) → mendNode n marks j (mends pool h) ≡ mends (mendNode n marks j (mends pool 0) .pool) (h + mendNode n marks j (mends pool 0) .headers)
+mend-on : (n : ℕ) (marks : List ℕ) (j h : ℕ) (pool : List ℕ)
+    → mendNode n marks j (mends pool h) ≡ mends (mendNode n marks j (mends pool 0) .pool) (h + mendNode n marks j (mends pool 0) .headers)
 mend-on n marks j h pool = go (stale pool n marks j)
   where
     σ : List Store
@@ -191,7 +189,8 @@ module _ (pool : List ℕ) (n : ℕ) {m : List ℕ} {r : Bool} (told : Found m r
       let e = judged (not-false r h) in
       rw (e, q, told .marked e)
 
-  pub open-damaged : (bytes : List ℕ) {m′ : List ℕ} → not r ≡ true → m′ ≡ replicate (length m) 0 → length m ≡ length bytes → left (opened 2 0 0) pool m′ ≡ leftJudged pool bytes n (surveyOf pool n)
+  pub open-damaged : (bytes : List ℕ) {m′ : List ℕ} → not r ≡ true → m′ ≡ replicate (length m) 0 → length m ≡ length bytes
+      → left (opened 2 0 0) pool m′ ≡ leftJudged pool bytes n (surveyOf pool n)
   open-damaged bytes h q l = rw (judged (not-true r h), q, l)
 
   pub open-restored : (bytes : List ℕ) {x : Left} → not r ≡ false → x ≡ restored n m pool → x ≡ leftJudged pool bytes n (surveyOf pool n)

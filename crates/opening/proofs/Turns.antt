@@ -150,14 +150,12 @@ module _ (pool : List ℕ) (n j b : ℕ) (m : List ℕ) where
   -- and stays so
   kid-keeps : (c : ℕ) (g : Gathered) → Over (g .sum .census) → Over (kidOf (surveyFrom 17 pool n) pool n j b c g .sum .census)
   kid-keeps c g h =
-      let P : Gathered → Type 0 = λ x. Over (x .sum .census) in
-      pick-both P (eqb (childAt pool n j c) 0) h
+      pick-both (λ (x : Gathered). Over (x .sum .census)) (eqb (childAt pool n j c) 0) h
       (rw (survey-over pool n 17 (b + 1) (childAt pool n j c) {v = survey (g .marks) (g .sum .census)} h) (join-over b c (g .sum) (g .sum .census) h))
 
   pub kids-stay-over : (k c : ℕ) → c ≤ 16 → Over (kids k c .sum .census) → Over (kids k 16 .sum .census)
   kids-stay-over k c l h =
-      let P : Gathered → Type 0 = λ x. Over (x .sum .census) in
-      upto-keeps (kidOf (surveyFrom 17 pool n) pool n j b) (gathered m (gather (census k true) 0 false)) P kid-keeps c 16 l h
+      upto-keeps (kidOf (surveyFrom 17 pool n) pool n j b) (gathered m (gather (census k true) 0 false)) (λ (x : Gathered). Over (x .sum .census)) kid-keeps c 16 l h
 
   -- where the code stands before child c: the marks m′, what is gathered, and how many children there were
   pub record Joined (c : ℕ) (m′ : List ℕ) (g : Gather) (children : ℕ) : Type 0 where
@@ -233,10 +231,8 @@ module _ (pool : List ℕ) (n w j : ℕ) (m : List ℕ) {word : ℕ} {h : Head} 
 
   module _ (b : ℕ) (e : h ≡ Branch b) where
     pub node-again : (s : Census) → (getD m (n + j) 0 ≡ 0 → ⊥) → Over s → Gives node m (survey m s)
-    node-again s z p = gives-over node m m s p (λ k. rw (← there, ← is, e, ne-eqb (getD m (n + j) 0) 0 z) (pick-both Q (ltb (childrenOf pool n j) 2) refl refl))
-      where
-        Q : Survey → Type 0
-        Q v = Over (v .census)
+    node-again s z p =
+        gives-over node m m s p (λ k. rw (← there, ← is, e, ne-eqb (getD m (n + j) 0) 0 z) (pick-both (λ (v : Survey). Over (v .census)) (ltb (childrenOf pool n j) 2) refl refl))
 
     pub node-few : (m′ : List ℕ) (s : Census) {children : ℕ} → children ≡ childrenOf pool n j → children < 2 → Over s → Gives node m (survey m′ s)
     node-few m′ s q l p = gives-over node m m′ s p (λ k. rw (← there, ← is, e, ← q, lt-ltb _ 2 l))
@@ -247,10 +243,9 @@ module _ (pool : List ℕ) (n w j : ℕ) (m : List ℕ) {word : ℕ} {h : Head} 
       own = set m (n + j) (w + 1)
 
       pub node-over : (m′ : List ℕ) (s : Census) → ((k : ℕ) → Over (kids pool n j b own k 16 .sum .census)) → Over s → Gives node m (survey m′ s)
-      node-over m′ s q p = gives-over node m m′ s p (λ k. rw (← there, ← is, e, eq-eqb (getD m (n + j) 0) 0 first) (pick-both Q (ltb (childrenOf pool n j) 2) refl (header-over (headerAt pool n j) _ (q k))))
-        where
-          Q : Survey → Type 0
-          Q v = Over (v .census)
+      node-over m′ s q p =
+          gives-over node m m′ s p (λ k. rw (← there, ← is, e, eq-eqb (getD m (n + j) 0) 0 first)
+          (pick-both (λ (v : Survey). Over (v .census)) (ltb (childrenOf pool n j) 2) refl (header-over (headerAt pool n j) _ (q k))))
 
       pub node-judged : {m′ : List ℕ} {g : Gather} {s : Census} {children : ℕ} → Joined pool n j b own 16 m′ g children → 2 ≤ children
           → s ≡ headJudged word (gather (census (g .census .last) true) (g .first) true) → Gives node m (survey m′ s)
@@ -258,10 +253,9 @@ module _ (pool : List ℕ) (n w j : ℕ) (m : List ℕ) {word : ℕ} {h : Head} 
           alike-same (rw (p, ← there, ← is, e, eq-eqb (getD m (n + j) 0) 0 first, ← so .counted, le-ltb children 2 l, so .all k, so .some (omega arith), ← there))
 
 -- ---- a reference, by what `reference` told
--- only 0 is empty
-empty-zero : (n r : ℕ) → refOf n r ≡ Empty → r ≡ 0
+only-0-empty : (n r : ℕ) → refOf n r ≡ Empty → r ≡ 0
 unfolding refOf
-empty-zero n r h = go (eqb r 0) refl (leb r 1024) (ltb (r - 1) n) (leb r 2047) (ltb (r - 1025 + 1) n) h
+only-0-empty n r h = go (eqb r 0) refl (leb r 1024) (ltb (r - 1) n) (leb r 2047) (ltb (r - 1025 + 1) n) h
   where
     go : (a : Bool) → eqb r 0 ≡ a → (b c d e : Bool) → pick a Empty (pick b (pick c (Leaf (r - 1)) Bad) (pick d (pick e (Node (r - 1025)) Bad) Bad)) ≡ Empty → r ≡ 0
     go true q b c d e h = eqb-true r 0 q
@@ -273,7 +267,7 @@ empty-zero n r h = go (eqb r 0) refl (leb r 1024) (ltb (r - 1) n) (leb r 2047) (
 
 module _ (pool : List ℕ) (n w r : ℕ) (m : List ℕ) {x : Ref} (is : x ≡ refOf n r) where
   pub ref-empty : x ≡ Empty → r ≡ 0
-  ref-empty e = empty-zero n r (sym is ∙ e)
+  ref-empty e = only-0-empty n r (sym is ∙ e)
 
   pub ref-leaf : {i key : ℕ} {v : Survey} → x ≡ Leaf i → key ≡ keyAt pool i → Gives (leafMet i key) m v → Gives (surveyFrom 17 pool n w r) m v
   ref-leaf e q g k = rw (survey-on pool n 17 w r (survey m (census k true)) refl is e, ← q) (g k)

@@ -34,7 +34,12 @@ loop-less : tie.Need-loop-less Inv-loop μ-loop
 loop-less c = search needs
 
 loop-again : tie.Need-loop-again Inv-loop μ-loop
-loop-again c = (omega arith, simp length-set (omega arith), changed-next reached (c .before .before .before .before .before .args .map .now) (c .before .before .before .loop .i) (c .before .before .before .loop .inv .2) (omega arith) (c .flat .ensures))
+loop-again c = (
+  omega arith,
+  simp length-set (omega arith),
+  changed-next reached (c .before .before .before .before .before .args .map .now)
+      (c .before .before .before .loop .i) (c .before .before .before .loop .inv .2) (omega arith) (c .flat .ensures),
+)
 
 same-length : tie.Need-same-length Inv-loop μ-loop
 same-length c = search needs

@@ -27,8 +27,9 @@ node-ref-requires c κs = search needs
 
 lowest-leaf-requires : tie.Need-lowest-leaf-requires
 lowest-leaf-requires c κs =
+    let x = c .before .before .before .before .before .before .before in
     let h = rw (c .before .before .b .given .1) at (c .before .before .before .before .accept .ensures .1) in
-    (c .before .before .before .before .before .before .before .pre .0, omega arith)
+    (x .pre .0, omega arith)
 
 enum-known-near : tie.Need-enum-known-near
 enum-known-near c = search needs
@@ -38,19 +39,29 @@ enum-told-2 c = search needs
 
 returns-2 : tie.Need-returns-2
 returns-2 c =
-    let a = c .before .before .before .before .before .before .before .before .before .before .args in
-    mend-keyless (a .pool .now) (a .n) (a .w) (a .j) (c .before .before .before .before .before .before .before .before .header .ensures) (c .before .before .before .before .before .before .before .accept .ensures .0) (c .before .before .before .before .before .b .given .1) (c .before .before .before .node-ref .ensures) (c .before .before .lowest-leaf .ensures) (c .enum-told2 .given .1)
+    let x = c .before .before .before .before .before in
+    let y = x .before .before .before .before .before in
+    let a = y .args in
+    mend-keyless (a .pool .now) (a .n) (a .w) (a .j) (x .before .before .before .header .ensures) (x .before .before .accept .ensures .0) (x .b .given .1)
+    (c .before .before .before .node-ref .ensures) (c .before .before .lowest-leaf .ensures) (c .enum-told2 .given .1)
 
 sub-pack : tie.Need-sub-pack
-sub-pack c = let h = rw (c .before .before .before .before .before .before .b .given .1) at (c .before .before .before .before .before .before .before .before .accept .ensures .1) in omega arith
+sub-pack c =
+    let x = c .before .before .before .before .before .before in
+    let h = rw (x .b .given .1) at (x .before .before .accept .ensures .1) in omega arith
 
 pack-requires : tie.Need-pack-requires
-pack-requires c κs = let h = rw (c .before .before .before .before .before .before .b .given .1) at (c .before .before .before .before .before .before .before .before .accept .ensures .1) in omega arith
+pack-requires c κs =
+    let x = c .before .before .before .before .before .before in
+    let h = rw (x .b .given .1) at (x .before .before .accept .ensures .1) in omega arith
 
 returns-3 : tie.Need-returns-3
 returns-3 c =
-    let a = c .before .before .before .before .before .before .before .before .before .before .before .before .args in
-    mend-header (a .pool .now) (a .n) (a .w) (a .j) (c .before .before .before .before .before .before .before .before .before .before .header .ensures) (c .before .before .before .before .before .before .before .before .before .accept .ensures .0) (c .before .before .before .before .before .before .before .b .given .1) (c .before .before .before .before .before .node-ref .ensures) (c .before .before .before .before .lowest-leaf .ensures) (c .before .before .near .given .1) (c .pack .ensures)
+    let x = c .before .before .before .before .before in
+    let y = x .before .before .before .before .before in
+    let a = y .before .before .args in
+    mend-header (a .pool .now) (a .n) (a .w) (a .j) (y .header .ensures) (x .before .before .before .before .accept .ensures .0) (x .before .before .b .given .1)
+    (x .node-ref .ensures) (c .before .before .before .before .lowest-leaf .ensures) (c .before .before .near .given .1) (c .pack .ensures)
 
 pub fresh-header-spec : {M : Type 1} → statement M
 fresh-header-spec =

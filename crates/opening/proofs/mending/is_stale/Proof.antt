@@ -31,7 +31,8 @@ unpack-requires c κs = search needs
 
 returns-2 : tie.Need-returns-2
 returns-2 c =
-    let a = c .before .before .before .before .before .before .before .args in
+    let x = c .before .before .before .before .before .before .before in
+    let a = x .args in
     met-judged (a .pool .now) (a .n) (a .map .now) (a .j) (c .before .before .before .if1 .left) (c .before .before .header .ensures) (c .before .unpack .ensures .0)
 
 pub is-stale-spec : {M : Type 1} → statement M

@@ -35,7 +35,11 @@ loop-less : tie.Need-loop-less Inv-loop μ-loop
 loop-less c = search needs
 
 loop-again : tie.Need-loop-again Inv-loop μ-loop
-loop-again c = (omega arith, byte-counted (c .before .before .before .args .map .now) (c .before .before .loop .i) (c .before .before .before .pre .1 (c .before .before .loop .i)) (c .before .before .loop .inv .1))
+loop-again c = (
+  omega arith,
+  byte-counted (c .before .before .before .args .map .now) (c .before .before .loop .i)
+      (c .before .before .before .pre .1 (c .before .before .loop .i)) (c .before .before .loop .inv .1),
+)
 
 returns : tie.Need-returns Inv-loop μ-loop
 returns c =

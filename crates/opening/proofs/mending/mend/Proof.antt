@@ -5,7 +5,7 @@ use native.Mathlib.Omega.{arith}
 use borrow.Author.Needs.{needs}
 use lib.ListN.{length}
 use Rattle.opening.specs.Openings.{Mended, mends, mended}
-use Rattle.opening.proofs.Openings.{mend-counts, mended-none, mended-next}
+use Rattle.opening.proofs.Openings.{at-most-one-header, mended-none, mended-next}
 use Rattle.opening.proofs.mending.mend.Statement.{statement}
 use Rattle.opening.proofs.mending.mend.Tie as tie
 
@@ -22,12 +22,19 @@ add-loop : tie.Need-add-loop Inv-loop μ-loop
 add-loop c = search needs
 
 mend-node-requires : tie.Need-mend-node-requires Inv-loop μ-loop
-mend-node-requires c κs = (record { some = c .before .before .before .before .before .pre .0 .some; most = c .before .before .before .before .before .pre .0 .most; words = omega (arith, c .before .before .before .before .before .pre .0 .words) }, c .before .before .before .before .before .pre .1, c .before .loop-test .taken)
+mend-node-requires c κs =
+    let p = c .before .before .before .before .before .pre in
+    (record { some = p .0 .some; most = p .0 .most; words = omega (arith, p .0 .words) }, p .1, c .before .loop-test .taken)
+
+-- a turn counts at most one header
+turn : (c : tie.After-slice-known2 Inv-loop μ-loop) → c .before .before .mend-node .result ≤ 1
+turn c =
+    let a = c .before .before .before .before .before .before .before .before .args in
+    let l = c .before .before .before .before .before .loop in
+    omega (arith, ap (λ (v : Mended). v .headers) (c .before .before .mend-node .ensures), at-most-one-header (a .n) (a .map .now) (l .j) (l .pool))
 
 add-headers : tie.Need-add-headers Inv-loop μ-loop
-add-headers c =
-    let l = c .before .before .before .before .before .loop in
-    omega (arith, ap (λ (v : Mended). v .headers) (c .before .before .mend-node .ensures), mend-counts (c .before .before .before .before .before .before .before .before .args .n) (c .before .before .before .before .before .before .before .before .args .map .now) (l .j) (l .pool))
+add-headers c = omega (arith, turn c)
 
 add-j : tie.Need-add-j Inv-loop μ-loop
 add-j c = search needs
@@ -37,8 +44,9 @@ loop-less c = search needs
 
 loop-again : tie.Need-loop-again Inv-loop μ-loop
 loop-again c =
+    let a = c .before .before .before .before .before .before .before .before .args in
     let l = c .before .before .before .before .before .loop in
-    (omega arith, omega arith, omega (arith, ap (λ (v : Mended). v .headers) (c .before .before .mend-node .ensures), mend-counts (c .before .before .before .before .before .before .before .before .args .n) (c .before .before .before .before .before .before .before .before .args .map .now) (l .j) (l .pool)), mended-next (c .before .before .before .before .before .before .before .before .args .n) (c .before .before .before .before .before .before .before .before .args .map .now) (c .before .before .before .before .before .before .before .before .args .pool .now) (l .j) (l .inv .3) (c .before .before .mend-node .ensures))
+    (omega arith, omega arith, omega (arith, turn c), mended-next (a .n) (a .map .now) (a .pool .now) (l .j) (l .inv .3) (c .before .before .mend-node .ensures))
 
 same-length : tie.Need-same-length Inv-loop μ-loop
 same-length c = search needs

@@ -38,10 +38,13 @@ mend-plan-requires c κs = search needs
 
 returns : tie.Need-returns Inv-loop μ-loop
 returns c =
-    let a = c .before .before .before .before .before .before .before .before .args in
-    let l = c .before .before .before .before .before .loop in
-    let h : l .j ≡ firstStale (a .pool .now) (a .n) (a .map .now) = scan-here _ _ _ (sym (c .before .before .before .is-stale .ensures) ∙ c .before .before .if1 .taken) ∙ l .inv .1 in
-    c .mend-plan .ensures ∙ rw (c .before .marked-depth .ensures) (ap (λ (σ : List Store). planOf σ Nothing) (sym (first-at (a .pool .now) (a .n) (a .map .now) (l .j) h (c .before .before .before .before .loop-test .taken))))
+    let x = c .before .before .before .before .before in
+    let a = x .before .before .before .args in
+    let l = x .loop in
+    let h : l .j ≡ firstStale (a .pool .now) (a .n) (a .map .now) = scan-here _ _ _
+    (sym (c .before .before .before .is-stale .ensures) ∙ c .before .before .if1 .taken) ∙ l .inv .1 in
+    c .mend-plan .ensures ∙ rw (c .before .marked-depth .ensures)
+    (ap (λ (σ : List Store). planOf σ Nothing) (sym (first-at (a .pool .now) (a .n) (a .map .now) (l .j) h (c .before .before .before .before .loop-test .taken))))
 
 add-j : tie.Need-add-j Inv-loop μ-loop
 add-j c = search needs

@@ -33,8 +33,11 @@ same-length-2 c = search needs
 
 returns-2 : tie.Need-returns-2
 returns-2 c =
-    let a = c .before .before .before .before .before .before .before .before .before .before .args in
-    mend-undone (a .n) (a .map .now) (a .j) (a .pool .now) (c .before .before .before .before .before .before .is-stale .ensures) (c .before .before .before .before .before .if1 .left) (c .before .before .before .marked-depth .ensures) (rw (c .enum-told .given .1) at (c .before .before .fresh-header .ensures))
+    let x = c .before .before .before .before .before in
+    let y = x .before .before .before .before .before in
+    let a = y .args in
+    mend-undone (a .n) (a .map .now) (a .j) (a .pool .now) (x .before .is-stale .ensures) (x .if1 .left) (c .before .before .before .marked-depth .ensures)
+    (rw (c .enum-told .given .1) at (c .before .before .fresh-header .ensures))
 
 node-word-requires : tie.Need-node-word-requires
 node-word-requires c κs = search needs
@@ -50,9 +53,14 @@ same-length-3 c = search needs
 
 returns-3 : tie.Need-returns-3
 returns-3 c =
-    let a = c .before .before .before .before .before .before .before .before .before .before .before .before .before .before .before .before .before .args in
-    mend-done (a .n) (a .map .now) (a .j) (a .pool .now) (c .before .before .before .before .before .before .before .before .before .before .before .before .before .is-stale .ensures) (c .before .before .before .before .before .before .before .before .before .before .before .before .if1 .left) (c .before .before .before .before .before .before .before .before .before .before .marked-depth .ensures) (rw (c .before .before .before .before .before .before .before .word .given .1) at (c .before .before .before .before .before .before .before .before .before .fresh-header .ensures))
-    (omega (arith, c .before .before .before .before .before .before .before .before .before .before .before .before .before .before .before .before .before .pre .0 .words, c .before .before .before .before .before .before .before .before .before .before .before .before .before .before .before .before .before .pre .2)) (c .before .before .before .before .node-word .ensures) (c .before .before .before .plan-of-one .ensures) (c .before .before .step .ensures)
+    let x = c .before .before .before .before .before .before .before in
+    let y = x .before .before .before .before .before in
+    let z = y .before .before .before .before .before in
+    let a = z .args in
+    mend-done (a .n) (a .map .now) (a .j) (a .pool .now) (y .before .is-stale .ensures) (y .if1 .left) (x .before .before .before .marked-depth .ensures)
+    (rw (x .word .given .1) at (x .before .before .fresh-header .ensures))
+    (omega (arith, z .pre .0 .words, z .pre .2)) (c .before .before .before .before .node-word .ensures) (c .before .before .before .plan-of-one .ensures)
+    (c .before .before .step .ensures)
 
 pub mend-node-spec : {M : Type 1} → statement M
 mend-node-spec =

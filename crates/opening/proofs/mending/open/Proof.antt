@@ -22,7 +22,9 @@ same-length : tie.Need-same-length
 same-length c = search needs
 
 returns : tie.Need-returns
-returns c = rw (c .refused .ensures) (open-wrong (c .before .before .before .before .before .before .before .args .pool .now) (c .before .before .before .capacity .ensures .0) (c .before .before .before .before .before .before .before .args .map .now) (c .before .enum-told .given .1))
+returns c =
+    let x = c .before .before .before .before .before .before .before in
+    rw (c .refused .ensures) (open-wrong (x .args .pool .now) (c .before .before .before .capacity .ensures .0) (x .args .map .now) (c .before .enum-told .given .1))
 
 mul-if1 : tie.Need-mul-if1
 mul-if1 c = let z = rw (c .before .n .given .1) at (c .before .before .before .capacity .ensures .1) in omega arith
@@ -37,10 +39,17 @@ same-length-2 : tie.Need-same-length-2
 same-length-2 c = search needs
 
 returns-2 : tie.Need-returns-2
-returns-2 c = rw (c .refused2 .ensures) (open-unsized (c .before .before .before .before .before .before .before .before .before .args .pool .now) (c .before .before .before .before .before .capacity .ensures .0) (c .before .before .before .before .before .before .before .before .before .args .map .now) (c .before .before .before .n .given .1) (c .before .if1 .taken))
+returns-2 c =
+    let x = c .before .before .before .before .before in
+    rw (c .refused2 .ensures) (open-unsized (x .before .before .before .before .args .pool .now) (x .capacity .ensures .0)
+    (x .before .before .before .before .args .map .now) (c .before .before .before .n .given .1) (c .before .if1 .taken))
 
 open-sized-requires : tie.Need-open-sized-requires
-open-sized-requires c κs = (rw (c .before .before .before .before .n .given .1) at (c .before .before .before .before .before .before .capacity .ensures .1), c .before .before .if1 .left)
+open-sized-requires c κs = (
+  rw (c .before .before .before .before .n .given .1) at
+      (c .before .before .before .before .before .before .capacity .ensures .1),
+  c .before .before .if1 .left,
+)
 
 same-length-3 : tie.Need-same-length-3
 same-length-3 c = search needs
@@ -49,7 +58,11 @@ same-length-4 : tie.Need-same-length-4
 same-length-4 c = search needs
 
 returns-3 : tie.Need-returns-3
-returns-3 c = c .before .before .before .before .open-sized .ensures ∙ open-holds (c .before .before .before .before .before .before .before .before .before .before .before .before .before .before .before .args .pool .now) (c .before .before .before .before .before .before .before .before .before .before .before .capacity .ensures .0) (c .before .before .before .before .before .before .before .before .before .before .before .before .before .before .before .args .map .now) (c .before .before .before .before .before .before .before .before .before .n .given .1) (c .before .before .before .before .before .before .before .if1 .left)
+returns-3 c =
+    let x = c .before .before .before .before .before .before .before in
+    let y = x .before .before .before .before .before .before .before .before in
+    c .before .before .before .before .open-sized .ensures ∙ open-holds (y .args .pool .now) (x .before .before .before .before .capacity .ensures .0) (y .args .map .now)
+    (x .before .before .n .given .1) (x .if1 .left)
 
 pub open-spec : {M : Type 1} → statement M
 open-spec =

@@ -12,7 +12,9 @@ clear-requires : tie.Need-clear-requires
 clear-requires c κs = search needs
 
 survey-requires : tie.Need-survey-requires
-survey-requires c κs = (c .before .before .before .before .before .before .before .before .pre .0, c .before .before .before .before .clear .ensures ∙ ap (λ (k : ℕ). replicate k 0) (c .before .before .before .before .before .before .before .before .pre .1))
+survey-requires c κs =
+    let x = c .before .before .before .before .before .before .before .before in
+    (x .pre .0, c .before .before .before .before .clear .ensures ∙ ap (λ (k : ℕ). replicate k 0) (x .pre .1))
 
 clear-requires-2 : tie.Need-clear-requires-2
 clear-requires-2 c κs = search needs
@@ -27,7 +29,11 @@ same-length-2 : tie.Need-same-length-2
 same-length-2 c = search needs
 
 returns : tie.Need-returns
-returns c = rw (c .refused .ensures) (open-damaged (c .before .before .before .before .before .before .before .before .before .before .before .before .before .before .before .before .before .args .pool .now) (c .before .before .before .before .before .before .before .before .before .before .before .before .before .before .before .before .before .args .n) (c .before .before .before .before .before .before .before .before .survey .ensures) (c .before .before .before .before .before .before .before .before .before .before .before .before .before .before .before .before .before .args .map .now) (c .before .before .before .before .before .if1 .taken) (c .before .before .before .clear2 .ensures) (omega arith))
+returns c =
+    let x = c .before .before .before .before .before in
+    let y = x .before .before .before .before .before .before .before .before .before .before .before .before in
+    rw (c .refused .ensures) (open-damaged (y .args .pool .now) (y .args .n) (x .before .before .before .survey .ensures) (y .args .map .now) (x .if1 .taken)
+    (c .before .before .before .clear2 .ensures) (omega arith))
 
 restore-requires : tie.Need-restore-requires
 restore-requires c κs = search needs
@@ -39,7 +45,11 @@ same-length-4 : tie.Need-same-length-4
 same-length-4 c = search needs
 
 returns-2 : tie.Need-returns-2
-returns-2 c = open-restored (c .before .before .before .before .before .before .before .before .before .before .before .before .before .before .before .before .before .before .before .args .pool .now) (c .before .before .before .before .before .before .before .before .before .before .before .before .before .before .before .before .before .before .before .args .n) (c .before .before .before .before .before .before .before .before .before .before .survey .ensures) (c .before .before .before .before .before .before .before .before .before .before .before .before .before .before .before .before .before .before .before .args .map .now) (c .before .before .before .before .before .before .before .if1 .left) (c .before .before .before .before .restore .ensures)
+returns-2 c =
+    let x = c .before .before .before .before .before .before .before in
+    let y = x .before .before .before .before .before .before .before .before .before .before .before .before in
+    open-restored (y .args .pool .now) (y .args .n) (x .before .before .before .survey .ensures) (y .args .map .now) (x .if1 .left)
+    (c .before .before .before .before .restore .ensures)
 
 pub open-sized-spec : {M : Type 1} → statement M
 open-sized-spec =

@@ -18,7 +18,8 @@ refused-requires : tie.Need-refused-requires
 refused-requires c κs = search needs
 
 returns : tie.Need-returns
-returns c = c .refused .ensures ∙ plan-wrong (c .before .before .before .before .before .args .pool .now) (c .before .before .before .capacity .ensures .0) (c .before .enum-told .given .1)
+returns c = c .refused .ensures ∙ plan-wrong (c .before .before .before .before .before .args .pool .now) (c .before .before .before .capacity .ensures .0)
+    (c .before .enum-told .given .1)
 
 slice-aggregate-plan-within : tie.Need-slice-aggregate-plan-within
 slice-aggregate-plan-within c = search needs
@@ -27,7 +28,9 @@ plan-within-requires : tie.Need-plan-within-requires
 plan-within-requires c κs = (rw (c .before .before .n .given .1) at (c .before .before .before .before .capacity .ensures .1), refl)
 
 returns-2 : tie.Need-returns-2
-returns-2 c = c .before .plan-within .ensures ∙ plan-holds (c .before .before .before .before .before .before .before .before .args .pool .now) (c .before .before .before .before .before .before .capacity .ensures .0) (c .before .before .before .before .n .given .1)
+returns-2 c =
+    let x = c .before .before .before .before .before .before in
+    c .before .plan-within .ensures ∙ plan-holds (x .before .before .args .pool .now) (x .capacity .ensures .0) (c .before .before .before .before .n .given .1)
 
 pub plan-open-spec : {M : Type 1} → statement M
 plan-open-spec =

@@ -17,16 +17,23 @@ same-length : tie.Need-same-length
 same-length c = search needs
 
 returns : tie.Need-returns
-returns c = c .refused .ensures ∙ plan-refused (c .before .before .before .before .before .before .before .before .args .pool .now) (c .before .before .before .before .before .before .before .before .args .n) (c .before .before .before .before .survey .ensures) (c .before .if1 .taken)
+returns c =
+    let x = c .before .before .before .before .before .before .before .before in
+    c .refused .ensures ∙ plan-refused (x .args .pool .now) (x .args .n) (c .before .before .before .before .survey .ensures) (c .before .if1 .taken)
 
 mend-first-requires : tie.Need-mend-first-requires
-mend-first-requires c κs = (c .before .before .before .before .before .before .before .before .pre .0, omega (arith, simp length-replicate at (ap length (c .before .before .before .before .before .before .before .before .pre .1))))
+mend-first-requires c κs =
+    let x = c .before .before .before .before .before .before .before .before in
+    (x .pre .0, omega (arith, simp length-replicate at (ap length (x .pre .1))))
 
 same-length-2 : tie.Need-same-length-2
 same-length-2 c = search needs
 
 returns-2 : tie.Need-returns-2
-returns-2 c = plan-first (c .before .before .before .before .before .before .before .before .before .args .pool .now) (c .before .before .before .before .before .before .before .before .before .args .n) (c .before .before .before .before .before .survey .ensures) (c .before .before .if1 .left) (c .mend-first .ensures)
+returns-2 c =
+    let x = c .before .before .before .before .before in
+    plan-first (x .before .before .before .before .args .pool .now) (x .before .before .before .before .args .n) (x .survey .ensures) (c .before .before .if1 .left)
+    (c .mend-first .ensures)
 
 pub plan-with-spec : {M : Type 1} → statement M
 plan-with-spec =

@@ -25,7 +25,11 @@ part-plan-with-end : tie.Need-part-plan-with-end
 part-plan-with-end c = omega (arith, simp length-replicate at (ap length (c .before .before .pre .1)))
 
 plan-with-requires : tie.Need-plan-with-requires
-plan-with-requires c κs = (c .before .before .before .pre .0, rw (c .before .before .before .pre .1, sub-zero) (take-run (2 * c .before .before .before .args .n - 1) 2047 0 (omega arith)))
+plan-with-requires c κs = (
+  c .before .before .before .pre .0,
+  rw (c .before .before .before .pre .1, sub-zero)
+      (take-run (2 * c .before .before .before .args .n - 1) 2047 0 (omega arith)),
+)
 
 same-length : tie.Need-same-length
 same-length c = search needs

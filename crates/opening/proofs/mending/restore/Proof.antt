@@ -12,7 +12,9 @@ flatten-requires : tie.Need-flatten-requires
 flatten-requires c κs = search needs
 
 keys-requires : tie.Need-keys-requires
-keys-requires c κs = (omega arith, rw (c .before .before .before .flatten .ensures) (bytes-flat (c .before .before .before .before .before .before .before .before .before .before .before .before .args .map .now)))
+keys-requires c κs =
+    let x = c .before .before .before .before .before .before .before .before .before .before .before .before in
+    (omega arith, rw (c .before .before .before .flatten .ensures) (bytes-flat (x .args .map .now)))
 
 same-length : tie.Need-same-length
 same-length c = search needs
@@ -21,7 +23,10 @@ same-length-2 : tie.Need-same-length-2
 same-length-2 c = search needs
 
 returns : tie.Need-returns
-returns c = restores (c .before .before .before .before .before .before .before .before .before .before .before .before .before .args .n) (c .before .before .before .before .before .before .before .before .before .before .before .before .before .args .map .now) (c .before .before .before .before .before .before .before .before .before .before .before .before .before .args .pool .now) (c .before .before .before .before .before .before .before .before .mend .ensures) (c .before .before .before .before .flatten .ensures) (c .keys .ensures)
+returns c =
+    let x = c .before .before .before .before .before .before .before .before in
+    let y = x .before .before .before .before .before in
+    restores (y .args .n) (y .args .map .now) (y .args .pool .now) (x .mend .ensures) (c .before .before .before .before .flatten .ensures) (c .keys .ensures)
 
 pub restore-spec : {M : Type 1} → statement M
 restore-spec =

@@ -24,7 +24,8 @@ gathered-requires-3 : tie.Need-gathered-requires-3
 gathered-requires-3 c κs = search needs
 
 returns-3 : tie.Need-returns-3
-returns-3 c = c .gathered3 .ensures ∙ join-first _ _ _ _ (c .before .before .before .before .if1 .left) (c .before .before .before .digit .ensures) (c .before .before .if2 .left) (c .before .if3 .taken)
+returns-3 c = c .gathered3 .ensures ∙ join-first _ _ _ _ (c .before .before .before .before .if1 .left) (c .before .before .before .digit .ensures)
+    (c .before .before .if2 .left) (c .before .if3 .taken)
 
 first-diff-requires : tie.Need-first-diff-requires
 first-diff-requires c κs = search needs
@@ -33,7 +34,8 @@ gathered-requires-4 : tie.Need-gathered-requires-4
 gathered-requires-4 c κs = search needs
 
 returns-4 : tie.Need-returns-4
-returns-4 c = c .gathered4 .ensures ∙ join-more _ _ _ _ (c .before .before .before .before .before .if1 .left) (c .before .before .before .before .digit .ensures) (c .before .before .before .if2 .left) (c .before .before .if3 .left) (c .before .first-diff .ensures)
+returns-4 c = c .gathered4 .ensures ∙ join-more _ _ _ _ (c .before .before .before .before .before .if1 .left) (c .before .before .before .before .digit .ensures)
+    (c .before .before .before .if2 .left) (c .before .before .if3 .left) (c .before .first-diff .ensures)
 
 pub join-spec : {M : Type 1} → statement M
 join-spec =

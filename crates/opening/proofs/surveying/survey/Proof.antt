@@ -23,18 +23,23 @@ enum-known-i : tie.Need-enum-known-i
 enum-known-i c = search needs
 
 leaf-key-requires : tie.Need-leaf-key-requires
-leaf-key-requires c κs = (c .before .before .before .before .before .before .before .before .pre .0, rw (c .before .before .i .given .1) at (c .before .before .before .before .reference .ensures .1))
+leaf-key-requires c κs =
+    let x = c .before .before .before .before .before .before .before .before in
+    (x .pre .0, rw (c .before .before .i .given .1) at (c .before .before .before .before .reference .ensures .1))
 
 meet-leaf-requires : tie.Need-meet-leaf-requires
 meet-leaf-requires c κs =
-    let h = rw (c .before .before .before .i .given .1) at (c .before .before .before .before .before .reference .ensures .1) in
-    omega (arith, simp length-replicate at (ap length (c .before .before .before .before .before .before .before .before .before .pre .1)))
+    let x = c .before .before .before .before .before in
+    let h = rw (c .before .before .before .i .given .1) at (x .reference .ensures .1) in
+    omega (arith, simp length-replicate at (ap length (x .before .before .before .before .pre .1)))
 
 enum-known-j : tie.Need-enum-known-j
 enum-known-j c = search needs
 
 survey-node-requires : tie.Need-survey-node-requires
-survey-node-requires c κs = (c .before .before .before .before .before .before .before .before .pre .0, simp length-replicate at (ap length (c .before .before .before .before .before .before .before .before .pre .1)), omega arith, rw (c .before .before .j .given .1) at (c .before .before .before .before .reference .ensures .1))
+survey-node-requires c κs =
+    let x = c .before .before .before .before .before .before .before .before in
+    (x .pre .0, simp length-replicate at (ap length (x .pre .1)), omega arith, rw (c .before .before .j .given .1) at (c .before .before .before .before .reference .ensures .1))
 
 enum-told-2 : tie.Need-enum-told-2
 enum-told-2 c = search needs
@@ -47,21 +52,28 @@ same-length c = search needs
 
 returns-2 : tie.Need-returns-2
 returns-2 c =
-    let a = c .before .before .before .before .before .before .before .before .before .before .before .before .args in
-    found _ _ (c .before .before .before .before .before .before .before .before .before .before .before .before .pre .1) (ref-leaf (a .pool .now) (a .n) 0 (wordAt (a .pool .now) 1) (a .map .now) (c .before .before .before .before .before .before .before .before .reference .ensures .0) (c .before .before .before .before .before .before .i .given .1) (c .before .before .before .leaf-key .ensures) (c .before .before .meet-leaf .ensures))
+    let x = c .before .before .before .before .before .before in
+    let y = x .before .before .before .before .before .before in
+    let a = y .args in
+    found _ _ (y .pre .1) (ref-leaf (a .pool .now) (a .n) 0 (wordAt (a .pool .now) 1) (a .map .now) (x .before .before .reference .ensures .0) (x .i .given .1)
+    (c .before .before .before .leaf-key .ensures) (c .before .before .meet-leaf .ensures))
 
 same-length-2 : tie.Need-same-length-2
 same-length-2 c = search needs
 
 returns-3 : tie.Need-returns-3
 returns-3 c =
-    let a = c .before .before .before .before .before .before .before .before .before .before .before .args in
-    found _ _ (c .before .before .before .before .before .before .before .before .before .before .before .pre .1) (ref-node (a .pool .now) (a .n) 0 (wordAt (a .pool .now) 1) (a .map .now) (c .before .before .before .before .before .before .before .reference .ensures .0) (c .before .before .before .before .before .j .given .1) (c .before .before .survey-node .ensures))
+    let x = c .before .before .before .before .before in
+    let y = x .before .before .before .before .before .before in
+    let a = y .args in
+    found _ _ (y .pre .1) (ref-node (a .pool .now) (a .n) 0 (wordAt (a .pool .now) 1) (a .map .now) (x .before .before .reference .ensures .0) (x .j .given .1)
+    (c .before .before .survey-node .ensures))
 
 returns-4 : tie.Need-returns-4
 returns-4 c =
     let a = c .before .before .before .before .before .before .args in
-    found _ _ (c .before .before .before .before .before .before .pre .1) (ref-bad (a .pool .now) (a .n) 0 (wordAt (a .pool .now) 1) (a .map .now) (c .before .before .reference .ensures .0) (census 0 false) (c .enum-told2 .given .1) refl)
+    found _ _ (c .before .before .before .before .before .before .pre .1)
+    (ref-bad (a .pool .now) (a .n) 0 (wordAt (a .pool .now) 1) (a .map .now) (c .before .before .reference .ensures .0) (census 0 false) (c .enum-told2 .given .1) refl)
 
 pub survey-spec : {M : Type 1} → statement M
 survey-spec =
