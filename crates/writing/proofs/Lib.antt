@@ -1,5 +1,6 @@
 pub mod LowestFree
 pub mod Arrays
+pub mod Counts
 pub mod Splits
 pub mod Puts
 pub mod Deletes
