@@ -6,3 +6,4 @@ pub mod Puts
 pub mod Deletes
 pub mod Fits
 pub mod Wholes
+pub mod Examples
