@@ -18,32 +18,36 @@ use Rattle.walk.proofs.End.{the-type}
 use Rattle.plan.specs.Plans.{refused}
 use Rattle.writing.specs.Deletes.{emptied, unlinkOf, missOf, deleteAt, deletePlan}
 
-module _ (pool : List ℕ) (k : ℕ) {z : Size} (size : z ≡ capacityOf pool) where
-  pub delete-unsized : z ≡ Wrong → refused 1 ≡ deletePlan pool k
+pub delete-unsized : (pool : List ℕ) (k : ℕ) {z : Size} → z ≡ capacityOf pool → z ≡ Wrong → refused 1 ≡ deletePlan pool k
+unfolding deletePlan
+delete-unsized pool k size h = rw (← size, h)
+
+-- what is known once the walk has ended
+pub record Walked (pool : List ℕ) (n k : ℕ) (e : End) : Type 0 where
+  pub size : Holds n ≡ capacityOf pool
+  pub walks : e ≡ walkOf pool n k
+
+module _ {pool : List ℕ} {n k : ℕ} {e : End} (w : Walked pool n k e) where
+  delete-at : {x : End} → e ≡ x → deleteAt pool n k x ≡ deletePlan pool k
   unfolding deletePlan
-  delete-unsized h = rw (← size, h)
+  delete-at q = rw (← w .size, ← w .walks, q)
 
-  module _ {n : ℕ} (holds : z ≡ Holds n) {e : End} (walks : e ≡ walkOf pool n k) where
-    delete-at : {x : End} → e ≡ x → deleteAt pool n k x ≡ deletePlan pool k
-    unfolding deletePlan
-    delete-at q = rw (← size, holds, ← walks, q)
+  -- what a match leaves
+  pub delete-missed : OneOf (1 ∷ 2 ∷ 3 ∷ []) (tagOf the-type e) → {m : ℕ} → m ≡ missOf e → refused m ≡ deletePlan pool k
+  delete-missed p q = rw q (go e p ∙ delete-at refl)
+    where
+      go : (e : End) → OneOf (1 ∷ 2 ∷ 3 ∷ []) (tagOf the-type e) → refused (missOf e) ≡ deleteAt pool n k e
+      go (AtLeaf s i) p = absurd (miss (1 ∷ 2 ∷ 3 ∷ []) 0 tt p)
+      go (AtEmpty s) p = refl
+      go (Stopped s j b) p = refl
+      go (Damaged m) p = refl
 
-    -- what a match leaves
-    pub delete-missed : OneOf (1 ∷ 2 ∷ 3 ∷ []) (tagOf the-type e) → {m : ℕ} → m ≡ missOf e → refused m ≡ deletePlan pool k
-    delete-missed p q = rw q (go e p ∙ delete-at refl)
-      where
-        go : (e : End) → OneOf (1 ∷ 2 ∷ 3 ∷ []) (tagOf the-type e) → refused (missOf e) ≡ deleteAt pool n k e
-        go (AtLeaf s i) p = absurd (miss (1 ∷ 2 ∷ 3 ∷ []) 0 tt p)
-        go (AtEmpty s) p = refl
-        go (Stopped s j b) p = refl
-        go (Damaged m) p = refl
+  module _ {s : Spot} {i x : ℕ} (leaf : e ≡ AtLeaf s i) (key : x ≡ keyAt pool i) where
+    pub delete-absent : (x ≡ k → ⊥) → refused 3 ≡ deletePlan pool k
+    delete-absent h = rw (← delete-at leaf, ← key, ne-eqb x k h)
 
-    module _ {s : Spot} {i x : ℕ} (leaf : e ≡ AtLeaf s i) (key : x ≡ keyAt pool i) where
-      pub delete-absent : (x ≡ k → ⊥) → refused 3 ≡ deletePlan pool k
-      delete-absent h = rw (← delete-at leaf, ← key, ne-eqb x k h)
+    pub delete-root : x ≡ k → s .nodes ≡ 0 → emptied (s .at) i ≡ deletePlan pool k
+    delete-root h r = rw (← delete-at leaf, ← key, eq-eqb x k h, eq-eqb (s .nodes) 0 r)
 
-      pub delete-root : x ≡ k → s .nodes ≡ 0 → emptied (s .at) i ≡ deletePlan pool k
-      delete-root h r = rw (← delete-at leaf, ← key, eq-eqb x k h, eq-eqb (s .nodes) 0 r)
-
-      pub delete-below : x ≡ k → (s .nodes ≡ 0 → ⊥) → unlinkOf pool n s i ≡ deletePlan pool k
-      delete-below h r = rw (← delete-at leaf, ← key, eq-eqb x k h, ne-eqb (s .nodes) 0 r)
+    pub delete-below : x ≡ k → (s .nodes ≡ 0 → ⊥) → unlinkOf pool n s i ≡ deletePlan pool k
+    delete-below h r = rw (← delete-at leaf, ← key, eq-eqb x k h, ne-eqb (s .nodes) 0 r)

@@ -5,12 +5,12 @@ use mathlib.Core.Path.{_≡_, refl, sym, ap, _∙_}
 use mathlib.Core.Logic.{inl, inr}
 use mathlib.Core.Bool.{Bool, true, false}
 use mathlib.Core.List.{List, [], _∷_, _++_}
-use Prim.Native.Nat.{ℕ, suc, _+_, _-_, _*_, _≤_, _<_}
+use Prim.Native.Nat.{ℕ, _+_, _-_, _≤_, _<_}
 use native.Mathlib.Omega.{arith}
 use borrow.Author.Tests.{ltb-true, eqb-true, eqb-false}
 use types.Run.{OneOf, hit, miss}
 use lib.Dec.{eqb, ltb}
-use lib.ListN.{length, getD}
+use lib.ListN.{length, getD, List·getD-eq-default}
 use Rattle.digits.specs.Choice.{pick}
 use Rattle.digits.specs.Digits.{firstDiff}
 use Rattle.digits.specs.Headers.{headerOf}
@@ -26,7 +26,7 @@ use Rattle.pool.specs.declared.Ref.the-variants.{Empty, Leaf, Node, Bad}
 use Rattle.pool.proofs.Sizes.{size-fits}
 use Rattle.pool.proofs.Refs.{within}
 use Rattle.walk.specs.Walks.{headOf, walkOf, walkTo, lowestOf, childrenOf, otherChild}
-use Rattle.walk.specs.Ends.{Inside as Standing, Passed, Ends}
+use Rattle.walk.specs.Ends.{Passed, Ends}
 use Rattle.walk.specs.declared.Head.{Head}
 use Rattle.walk.specs.declared.Head.the-variants.{Branch, Wrong as Unaccepted}
 use Rattle.walk.specs.declared.Spot.{Spot}
@@ -35,16 +35,20 @@ use Rattle.walk.specs.declared.End.the-variants.{AtLeaf, AtEmpty, Stopped, Dama
 use Rattle.walk.specs.declared.Lowest.{Lowest}
 use Rattle.walk.specs.declared.Lowest.the-variants.{Key, NoKey}
 use Rattle.walk.proofs.Ends.{walk-inside}
-use Rattle.plan.specs.Plans.{Decided, decided, refused}
+use Rattle.plan.specs.Plans.{Decided, refused, planOf, plannedOf}
 use Rattle.plan.specs.Effects.{Inside}
+use Rattle.plan.specs.declared.Plan.{Plan}
+use Rattle.plan.specs.declared.Effect.{Effect}
+use Rattle.plan.proofs.Laws.{unused, plan-word, plan-value}
 use Rattle.writing.specs.declared.splitting.Cleft.{Cleft}
 use Rattle.writing.specs.declared.splitting.Target.{Target}
 use Rattle.writing.specs.declared.splitting.Target.the-variants.{ALeaf, ANode}
 use Rattle.writing.specs.declared.splitting.Room.{Room}
 use Rattle.writing.specs.declared.splitting.Room.the-variants.{Slots, Full}
-use Rattle.writing.specs.Puts.{store, freeLeaf, growOf, splitChild, targetHeader, splitStores, roomOf, splitIn, splitOf, cleftAt, placedAt, besideOf, belowLast, leafPut, emptyPut, putAt, putIn, putPlan}
-use Rattle.writing.specs.Deletes.{emptied, liftOf, liftAt, liftIn, mergeOf, mergeWith, unlinkOf, deleteAt, deleteIn, deletePlan}
-use Rattle.writing.proofs.Splits.{slots-inside, leaf-count, node-count}
+use Rattle.writing.specs.Puts.{store, freeLeaf, growOf, splitChild, targetHeader, splitStores, roomOf, splitIn, splitOf, cleftAt, placedAt, besideOf, belowLast, putAt, putIn, putPlan}
+use Rattle.writing.specs.Deletes.{emptied, liftOf, liftAt, mergeOf, unlinkOf, deleteAt, deleteIn, deletePlan}
+use Rattle.writing.proofs.Counts.{leaf-split-count, node-split-count}
+use Rattle.writing.proofs.Splits.{slots-inside}
 
 -- a plan of so many stores, or a refusal that does nothing, with one of these numbers
 pub data Answers (numbers counts : List ℕ) (d : Decided) : Type 0 where
@@ -81,18 +85,34 @@ answer-refusal : {numbers counts : List ℕ} {d : Decided} → Answers numbers c
 answer-refusal (plans e h) o = absurd (o e)
 answer-refusal (refuses k h e) o = e ∙ ap (λ (x : Decided). refused (x .number)) (sym e)
 
+-- "unused places 0"
+abbrev pub Unused : Plan → ℕ → Type 0
+Unused p i = (getD (p .words) i 0 ≡ 0) × (getD (p .values) i 0 ≡ 0)
+
+unused-zero : (σ : List Store) (e : Effect) → length σ ≤ 21 → (i : ℕ) → length σ ≤ i → Unused (planOf σ e) i
+unused-zero σ e few i h =
+    let u = List·getD-eq-default σ unused h in
+    (plan-word σ e few i ∙ ap (λ (s : Store). s .word) u, plan-value σ e few i ∙ ap (λ (s : Store). s .value) u)
+
 -- ---- puts
 -- a node that is split off is one of the pool's
 abbrev Known : ℕ → Target → Type 0
 Known n ALeaf = Unit {0}
 Known n (ANode j b) = j + 1 < n
 
+-- the numbers that refuse a put, and the numbers of stores of one that is made
+abbrev putNumbers : List ℕ
+putNumbers = 1 ∷ 2 ∷ 4 ∷ []
+
+abbrev putCounts : List ℕ
+putCounts = 1 ∷ 3 ∷ 20 ∷ 21 ∷ []
+
 abbrev PutFits : List ℕ → List ℕ → Decided → Type 0
-PutFits pool map d = Fits pool (length map) (1 ∷ 2 ∷ 4 ∷ []) (1 ∷ 3 ∷ 20 ∷ 21 ∷ []) d
+PutFits pool map d = Fits pool (length map) putNumbers putCounts d
 
 module _ {pool : List ℕ} (map : List ℕ) {n : ℕ} (z : Sized pool n) (l : length map ≡ bytesOf n) (k v : ℕ) where
   damage : PutFits pool map (refused 2)
-  damage = refusal 2 (hit (1 ∷ 2 ∷ 4 ∷ []) 2 tt)
+  damage = refusal 2 (hit putNumbers 2 tt)
 
   grow-fits : (at : ℕ) → at < length pool → PutFits pool map (growOf map n k v at)
   unfolding Words block
@@ -104,9 +124,9 @@ module _ {pool : List ℕ} (map : List ℕ) {n : ℕ} (z : Sized pool n) (l : le
         inside = (omega arith, (omega arith, (h, tt)));
         few = omega arith;
         named = ((omega arith, tt), tt);
-        answers = plans refl (hit (1 ∷ 3 ∷ 20 ∷ 21 ∷ []) 3 tt);
+        answers = plans refl (hit putCounts 3 tt);
       })
-      (λ e. refusal 4 (hit (1 ∷ 2 ∷ 4 ∷ []) 4 tt))
+      (λ e. refusal 4 (hit putNumbers 4 tt))
 
   split-fits : (s : Cleft) (target : Target) → s .at < length pool → Known n target → PutFits pool map (splitOf map n s k v target)
   unfolding Words
@@ -116,9 +136,9 @@ module _ {pool : List ℕ} (map : List ℕ) {n : ℕ} (z : Sized pool n) (l : le
       header ALeaf h = tt
       header (ANode j b) h = (omega arith, tt)
 
-      count : (leaf node : ℕ) (target : Target) → OneOf (1 ∷ 3 ∷ 20 ∷ 21 ∷ []) (length (splitStores n s leaf node k v target)) × (length (splitStores n s leaf node k v target) ≤ 21)
-      count leaf node ALeaf = rw (leaf-count n s leaf node k v) (hit (1 ∷ 3 ∷ 20 ∷ 21 ∷ []) 20 tt, omega arith)
-      count leaf node (ANode j b) = rw (node-count n s leaf node k v j b) (hit (1 ∷ 3 ∷ 20 ∷ 21 ∷ []) 21 tt, omega arith)
+      count : (leaf node : ℕ) (target : Target) → OneOf putCounts (length (splitStores n s leaf node k v target)) × (length (splitStores n s leaf node k v target) ≤ 21)
+      count leaf node ALeaf = rw (leaf-split-count n s leaf node k v) (hit putCounts 20 tt, omega arith)
+      count leaf node (ANode j b) = rw (node-split-count n s leaf node k v j b) (hit putCounts 21 tt, omega arith)
 
       stores : (leaf node : ℕ) → leaf < n → node + 1 < n → Words (λ w. w < length pool) (splitStores n s leaf node k v target)
       stores leaf node a b =
@@ -140,7 +160,7 @@ module _ {pool : List ℕ} (map : List ℕ) {n : ℕ} (z : Sized pool n) (l : le
             named = ((omega arith, (omega arith, tt)), tt);
             answers = plans refl (count leaf (byte - n) target .0);
           }
-      go Full e = refusal 4 (hit (1 ∷ 2 ∷ 4 ∷ []) 4 tt)
+      go Full e = refusal 4 (hit putNumbers 4 tt)
 
   beside-fits : (last gap k2 : ℕ) → gap < length pool → PutFits pool map (besideOf pool map n k v last gap k2)
   beside-fits last gap k2 g = either (eqb f 16) (λ e. damage) (λ e. go (walkTo pool n k f) (walk-inside z k f refl))
@@ -160,7 +180,7 @@ module _ {pool : List ℕ} (map : List ℕ) {n : ℕ} (z : Sized pool n) (l : le
   unfolding Words
   put-at-fits (AtLeaf s i) h =
       either (eqb (keyAt pool i) k)
-      (λ e. record { inside = (omega (arith, h .within), tt); few = omega arith; named = (tt, tt); answers = plans refl (hit (1 ∷ 3 ∷ 20 ∷ 21 ∷ []) 1 tt) })
+      (λ e. record { inside = (omega (arith, h .within), tt); few = omega arith; named = (tt, tt); answers = plans refl (hit putCounts 1 tt) })
       (λ e. beside-fits 0 0 (keyAt pool i) (omega arith))
   put-at-fits (AtEmpty s) h =
       either (eqb (s .nodes) 0) (λ e. grow-fits (s .at) (omega (arith, h .inside .at<))) (λ e. go (lowestOf pool n (s .above) (wordAt pool (s .over))))
@@ -179,8 +199,8 @@ put-fits pool map k v = go (capacityOf pool) (size-fits pool (getD pool 0 0))
     go (Holds n) z =
         either (eqb (length map) (bytesOf n))
         (λ e. put-at-fits map z (eqb-true (length map) (bytesOf n) e) k v (walkOf pool n k) (walk-inside z k 16 refl))
-        (λ e. refusal 1 (hit (1 ∷ 2 ∷ 4 ∷ []) 1 tt))
-    go Wrong z = refusal 1 (hit (1 ∷ 2 ∷ 4 ∷ []) 1 tt)
+        (λ e. refusal 1 (hit putNumbers 1 tt))
+    go Wrong z = refusal 1 (hit putNumbers 1 tt)
 
 -- its stores lie inside the pool, at most 21
 pub put-inside : (pool map : List ℕ) (k v : ℕ) → Words (λ w. w < length pool) (putPlan pool map k v .stores)
@@ -189,6 +209,10 @@ put-inside pool map k v = put-fits pool map k v .inside
 pub put-few : (pool map : List ℕ) (k v : ℕ) → length (putPlan pool map k v .stores) ≤ 21
 put-few pool map k v = put-fits pool map k v .few
 
+-- the places of its plan that no store uses are 0
+pub put-unused : (pool map : List ℕ) (k v i : ℕ) → length (putPlan pool map k v .stores) ≤ i → Unused (plannedOf (putPlan pool map k v) .plan) i
+put-unused pool map k v = unused-zero (putPlan pool map k v .stores) (putPlan pool map k v .effect) (put-few pool map k v)
+
 -- the bytes that it takes lie inside the map
 pub put-named : (pool map : List ℕ) (k v : ℕ) → Inside (putPlan pool map k v .effect) (length map)
 put-named pool map k v = put-fits pool map k v .named
@@ -196,10 +220,11 @@ put-named pool map k v = put-fits pool map k v .named
 pub put-number : (pool map : List ℕ) (k v : ℕ) → OneOf (0 ∷ 1 ∷ 2 ∷ 4 ∷ []) (putPlan pool map k v .number)
 put-number pool map k v = answer-number (put-fits pool map k v .answers)
 
--- "1; 3; 20; 21"
+-- 1, 3, 20 or 21 stores
 pub put-count : (pool map : List ℕ) (k v : ℕ) → putPlan pool map k v .number ≡ 0 → OneOf (1 ∷ 3 ∷ 20 ∷ 21 ∷ []) (length (putPlan pool map k v .stores))
-put-count pool map k v = answer-count (miss (1 ∷ 2 ∷ 4 ∷ []) 0 tt) (put-fits pool map k v .answers)
+put-count pool map k v = answer-count (miss putNumbers 0 tt) (put-fits pool map k v .answers)
 
+-- a refusal has no stores and does nothing to the map
 pub put-refusal : (pool map : List ℕ) (k v : ℕ) → (putPlan pool map k v .number ≡ 0 → ⊥) → putPlan pool map k v ≡ refused (putPlan pool map k v .number)
 put-refusal pool map k v = answer-refusal (put-fits pool map k v .answers)
 
@@ -209,16 +234,23 @@ abbrev pub bytesIn : Size → ℕ
 bytesIn (Holds n) = bytesOf n
 bytesIn Wrong = 0
 
+-- the numbers that refuse a delete, and the numbers of stores of one that is made
+abbrev deleteNumbers : List ℕ
+deleteNumbers = 1 ∷ 2 ∷ 3 ∷ []
+
+abbrev deleteCounts : List ℕ
+deleteCounts = 1 ∷ 2 ∷ []
+
 abbrev DeleteFits : List ℕ → ℕ → Decided → Type 0
-DeleteFits pool bytes d = Fits pool bytes (1 ∷ 2 ∷ 3 ∷ []) (1 ∷ 2 ∷ []) d
+DeleteFits pool bytes d = Fits pool bytes deleteNumbers deleteCounts d
 
 module _ {pool : List ℕ} {n : ℕ} (z : Sized pool n) where
   unmet : DeleteFits pool (bytesOf n) (refused 2)
-  unmet = refusal 2 (hit (1 ∷ 2 ∷ 3 ∷ []) 2 tt)
+  unmet = refusal 2 (hit deleteNumbers 2 tt)
 
   emptied-fits : (at i : ℕ) → at < length pool → i < n → DeleteFits pool (bytesOf n) (emptied at i)
   unfolding Words
-  emptied-fits at i h l = record { inside = (h, tt); few = omega arith; named = (tt, (omega arith, tt)); answers = plans refl (hit (1 ∷ 2 ∷ []) 1 tt) }
+  emptied-fits at i h l = record { inside = (h, tt); few = omega arith; named = (tt, (omega arith, tt)); answers = plans refl (hit deleteCounts 1 tt) }
 
   module _ {s : Spot} (p : Passed pool n s) (i : ℕ) (l : i < n) where
     lift-fits : (r j b : ℕ) (k : Lowest) → j + 1 < n → DeleteFits pool (bytesOf n) (liftOf n s i r j b k)
@@ -228,7 +260,7 @@ module _ {pool : List ℕ} {n : ℕ} (z : Sized pool n) where
           inside = (omega (arith, p .over<), (omega arith, tt));
           few = omega arith;
           named = (tt, (omega arith, (omega (arith, p .accepted .j<), tt)));
-          answers = plans refl (hit (1 ∷ 2 ∷ []) 2 tt);
+          answers = plans refl (hit deleteCounts 2 tt);
         }
     lift-fits r j b NoKey h = unmet
 
@@ -240,7 +272,7 @@ module _ {pool : List ℕ} {n : ℕ} (z : Sized pool n) where
           inside = (omega (arith, p .over<), tt);
           few = omega arith;
           named = (tt, (omega arith, (omega (arith, p .accepted .j<), tt)));
-          answers = plans refl (hit (1 ∷ 2 ∷ []) 1 tt);
+          answers = plans refl (hit deleteCounts 1 tt);
         }
     merge-fits r (Node j) h = go (headOf (s .depth) (headerAt pool n j))
       where
@@ -266,8 +298,8 @@ module _ {pool : List ℕ} {n : ℕ} (z : Sized pool n) where
       let at< : s .at < length pool = omega (arith, h .inside .at<) in
       either (eqb (keyAt pool i) k)
       (λ e. either (eqb (s .nodes) 0) (λ e. emptied-fits (s .at) i at< (h .within)) (λ e. unlink-fits (h .inside .passed (eqb-false (s .nodes) 0 e)) i (h .within) at<))
-      (λ e. refusal 3 (hit (1 ∷ 2 ∷ 3 ∷ []) 3 tt))
-  delete-at-fits k (AtEmpty s) h = refusal 3 (hit (1 ∷ 2 ∷ 3 ∷ []) 3 tt)
+      (λ e. refusal 3 (hit deleteNumbers 3 tt))
+  delete-at-fits k (AtEmpty s) h = refusal 3 (hit deleteNumbers 3 tt)
   delete-at-fits k (Stopped s j b) h = unmet
   delete-at-fits k (Damaged m) h = unmet
 
@@ -277,13 +309,18 @@ delete-fits pool k = go (capacityOf pool) (size-fits pool (getD pool 0 0))
   where
     go : (z : Size) → Measured pool z → DeleteFits pool (bytesIn z) (deleteIn pool k z)
     go (Holds n) z = delete-at-fits z k (walkOf pool n k) (walk-inside z k 16 refl)
-    go Wrong z = refusal 1 (hit (1 ∷ 2 ∷ 3 ∷ []) 1 tt)
+    go Wrong z = refusal 1 (hit deleteNumbers 1 tt)
 
+-- its stores lie inside the pool, at most 21
 pub delete-inside : (pool : List ℕ) (k : ℕ) → Words (λ w. w < length pool) (deletePlan pool k .stores)
 delete-inside pool k = delete-fits pool k .inside
 
 pub delete-few : (pool : List ℕ) (k : ℕ) → length (deletePlan pool k .stores) ≤ 21
 delete-few pool k = delete-fits pool k .few
+
+-- the places of its plan that no store uses are 0
+pub delete-unused : (pool : List ℕ) (k i : ℕ) → length (deletePlan pool k .stores) ≤ i → Unused (plannedOf (deletePlan pool k) .plan) i
+delete-unused pool k = unused-zero (deletePlan pool k .stores) (deletePlan pool k .effect) (delete-few pool k)
 
 -- the bytes that it frees lie inside the pool's map
 pub delete-named : (pool : List ℕ) (k : ℕ) {n : ℕ} → capacityOf pool ≡ Holds n → Inside (deletePlan pool k .effect) (bytesOf n)
@@ -292,8 +329,10 @@ delete-named pool k e = rw e at (delete-fits pool k .named)
 pub delete-number : (pool : List ℕ) (k : ℕ) → OneOf (0 ∷ 1 ∷ 2 ∷ 3 ∷ []) (deletePlan pool k .number)
 delete-number pool k = answer-number (delete-fits pool k .answers)
 
+-- 1 or 2 stores
 pub delete-count : (pool : List ℕ) (k : ℕ) → deletePlan pool k .number ≡ 0 → OneOf (1 ∷ 2 ∷ []) (length (deletePlan pool k .stores))
-delete-count pool k = answer-count (miss (1 ∷ 2 ∷ 3 ∷ []) 0 tt) (delete-fits pool k .answers)
+delete-count pool k = answer-count (miss deleteNumbers 0 tt) (delete-fits pool k .answers)
 
+-- a refusal has no stores and does nothing to the map
 pub delete-refusal : (pool : List ℕ) (k : ℕ) → (deletePlan pool k .number ≡ 0 → ⊥) → deletePlan pool k ≡ refused (deletePlan pool k .number)
 delete-refusal pool k = answer-refusal (delete-fits pool k .answers)

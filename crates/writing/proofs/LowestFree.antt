@@ -1,6 +1,6 @@
 -- Laws of the lowest free byte: it is free, no byte before it is, and full bytes may be skipped one by one or block by block.
 -- Assumes nothing.
-use mathlib.Core.Path.{_≡_, refl, sym, ap, _∙_}
+use mathlib.Core.Path.{_≡_, refl, sym, _∙_}
 use mathlib.Core.Logic.{_⊎_, inl, inr}
 use mathlib.Core.Bool.{Bool, true, false}
 use mathlib.Core.List.{List}
@@ -9,10 +9,10 @@ use native.Mathlib.Nat.{add-zero, not-suc-le-zero}
 use native.Mathlib.Omega.{arith}
 use borrow.Author.Tests.{eq-eqb, ne-eqb, eqb-true, eqb-false}
 use lib.Dec.{eqb}
-use lib.ListN.{length, getD}
+use lib.ListN.{getD}
 use Rattle.digits.specs.Choice.{pick}
 use Rattle.digits.specs.Loops.{scan, tally}
-use Rattle.tree.proofs.Basics.{last?, true-not-false}
+use Rattle.tree.proofs.Basics.{last?}
 use Rattle.walk.proofs.Loops.{scan-here, scan-next, scan-none, scan-true, tally-true, tally-false}
 use Rattle.writing.specs.Puts.{freeFrom}
 

@@ -1,6 +1,6 @@
 -- Where a put goes: by where the walk ends, and beside which key. Every place found leads to the definition's plan, whatever the map and the value.
 -- Assumes nothing.
-use mathlib.Core.Path.{_≡_, refl, sym, ap, _∙_}
+use mathlib.Core.Path.{_≡_, refl, sym, _∙_}
 use mathlib.Core.List.{List, [], _∷_}
 use Prim.Native.Nat.{ℕ, _+_, _≤_, _<_}
 use native.Mathlib.Omega.{arith}
@@ -16,7 +16,7 @@ use Rattle.pool.specs.Places.{wordAt, keyAt}
 use Rattle.pool.specs.declared.Size.{Size}
 use Rattle.pool.specs.declared.Size.the-variants.{Holds, Wrong}
 use Rattle.walk.specs.Walks.{walkOf, walkTo, lowestOf}
-use Rattle.walk.specs.Ends.{Inside}
+use Rattle.walk.specs.Ends.{Inside, Ends}
 use Rattle.walk.specs.declared.Spot.{Spot}
 use Rattle.walk.specs.declared.End.{End}
 use Rattle.walk.specs.declared.End.the-variants.{AtLeaf, AtEmpty, Stopped, Damaged}
@@ -48,37 +48,51 @@ over-inside {pool} {s = s} z i = go (same? (s .nodes) 0)
 leads-refused : {n k m : ℕ} {plan : List ℕ → ℕ → Decided} → ((map : List ℕ) (v : ℕ) → refused m ≡ plan map v) → Leads n k (Refused m) plan
 leads-refused h = record { able = tt; plans = h }
 
-module _ {pool : List ℕ} {n : ℕ} (z : Sized pool n) (k last gap k2 : ℕ) {f : ℕ} (first : f ≡ firstDiff k k2) where
-  abbrev Besides : Place → Type 0
-  Besides p = Leads n k p (λ map v. besideOf pool map n k v last gap k2)
+-- what is known once the walk to the first differing digit f has ended
+pub record Walked (pool : List ℕ) (n k k2 f : ℕ) (e : End) : Type 0 where
+  pub sized : Sized pool n
+  pub first : f ≡ firstDiff k k2
+  pub differ : f ≡ 16 → ⊥
+  pub walks : e ≡ walkTo pool n k f
 
-  pub beside-same : f ≡ 16 → Besides (Refused 2)
-  beside-same h = leads-refused (λ map v. rw (← first, eq-eqb f 16 h))
+abbrev Besides : List ℕ → ℕ → ℕ → ℕ → ℕ → ℕ → Place → Type 0
+Besides pool n k last gap k2 p = Leads n k p (λ map v. besideOf pool map n k v last gap k2)
 
-  module _ (differ : f ≡ 16 → ⊥) {e : End} (walks : e ≡ walkTo pool n k f) where
-    digit : f < 16
-    digit = omega (arith, first-diff-le k k2 16)
+pub beside-same : (pool : List ℕ) (n k last gap k2 : ℕ) {f : ℕ} → f ≡ firstDiff k k2 → f ≡ 16 → Besides pool n k last gap k2 (Refused 2)
+beside-same pool n k last gap k2 {f} first h = leads-refused (λ map v. rw (← first, eq-eqb f 16 h))
 
+module _ {pool : List ℕ} {n k k2 f : ℕ} {e : End} (w : Walked pool n k k2 f e) where
+  digit : f < 16
+  digit = omega (arith, first-diff-le k k2 16)
+
+  ended : {x : End} → e ≡ x → Ends pool n f x
+  ended q = walk-inside (w .sized) k f (sym q ∙ w .walks)
+
+  -- the reference that is to be split is inside the pool
+  pub leaf-at : {s : Spot} {i : ℕ} → e ≡ AtLeaf s i → s .at < length pool
+  leaf-at q = omega (arith, ended q .inside .at<)
+
+  pub node-at : {s : Spot} {j b : ℕ} → e ≡ Stopped s j b → s .at < length pool
+  node-at q = omega (arith, ended q .inside .at<)
+
+  pub few-nodes : {s : Spot} {j b : ℕ} → e ≡ Stopped s j b → s .nodes ≤ 16
+  few-nodes q =
+      let h = ended q .inside in
+      omega arith
+
+  module _ (last gap : ℕ) where
     placed : (map : List ℕ) (v : ℕ) → placedAt pool map n k v k2 f last gap e ≡ besideOf pool map n k v last gap k2
-    placed map v = rw (← first, ne-eqb f 16 differ, ← walks)
+    placed map v = rw (← w .first, ne-eqb f 16 (w .differ), ← w .walks)
 
-    -- the reference to a leaf is split
-    pub leaf-at : {s : Spot} {i : ℕ} → e ≡ AtLeaf s i → s .at < length pool
-    leaf-at q = omega (arith, walk-inside z k f (sym q ∙ walks) .inside .at<)
-
-    pub leaf-apart : {s : Spot} {i : ℕ} {c : Cleft} → e ≡ AtLeaf s i → c ≡ cleftAt pool k2 f s → Besides (Apart c ALeaf)
-    leaf-apart q g =
-        let h = walk-inside z k f (sym q ∙ walks) in
-        record { able = rw g (h .inside .depth≤stop, digit, tt); plans = λ map v. rw (← placed map v, q, g) }
+    -- the walk ended at a leaf
+    pub leaf-apart : {s : Spot} {i : ℕ} {c : Cleft} → e ≡ AtLeaf s i → c ≡ cleftAt pool k2 f s → Besides pool n k last gap k2 (Apart c ALeaf)
+    leaf-apart q g = record { able = rw g (ended q .inside .depth≤stop, digit, tt); plans = λ map v. rw (← placed map v, q, g) }
 
     module _ {s : Spot} {j b : ℕ} (stopped : e ≡ Stopped s j b) where
-      -- the reference to a node that branches past f is split
-      pub node-at : s .at < length pool
-      node-at = omega (arith, walk-inside z k f (sym stopped ∙ walks) .inside .at<)
-
-      pub node-apart : {c : Cleft} → (b ≡ f → ⊥) → c ≡ cleftAt pool k2 f s → Besides (Apart c (ANode j b))
+      -- the node branches past f
+      pub node-apart : {c : Cleft} → (b ≡ f → ⊥) → c ≡ cleftAt pool k2 f s → Besides pool n k last gap k2 (Apart c (ANode j b))
       node-apart d g =
-          let h = walk-inside z k f (sym stopped ∙ walks) in
+          let h = ended stopped in
           let l : f < b = omega arith in
           record {
             able = rw g (h .inside .depth≤stop, digit, (h .accepted .j<, l, h .accepted .b<));
@@ -86,18 +100,15 @@ module _ {pool : List ℕ} {n : ℕ} (z : Sized pool n) (k last gap k2 : ℕ) {f
           }
 
       -- the walk's last node branches at f, and its child is empty
-      pub few-nodes : s .nodes ≤ 16
-      few-nodes = let h = walk-inside z k f (sym stopped ∙ walks) .inside in omega arith
-
-      pub gap-there : b ≡ f → s .nodes + 1 ≡ last → Besides (Gap gap)
+      pub gap-there : b ≡ f → s .nodes + 1 ≡ last → Besides pool n k last gap k2 (Gap gap)
       gap-there d l = record { able = tt; plans = λ map v. rw (← placed map v, stopped, eq-eqb b f d, eq-eqb (s .nodes + 1) last l) }
 
       -- an earlier one does
-      pub gap-elsewhere : b ≡ f → (s .nodes + 1 ≡ last → ⊥) → Besides (Refused 2)
+      pub gap-elsewhere : b ≡ f → (s .nodes + 1 ≡ last → ⊥) → Besides pool n k last gap k2 (Refused 2)
       gap-elsewhere d l = leads-refused (λ map v. rw (← placed map v, stopped, eq-eqb b f d, ne-eqb (s .nodes + 1) last l))
 
     -- what two matches leave
-    pub beside-damaged : OneOf (1 ∷ 2 ∷ 3 ∷ []) (tagOf the-type e) → OneOf (0 ∷ 1 ∷ 3 ∷ []) (tagOf the-type e) → Besides (Refused 2)
+    pub beside-damaged : OneOf (1 ∷ 2 ∷ 3 ∷ []) (tagOf the-type e) → OneOf (0 ∷ 1 ∷ 3 ∷ []) (tagOf the-type e) → Besides pool n k last gap k2 (Refused 2)
     beside-damaged p q = leads-refused (λ map v. rw (← placed map v) (go map v e p q))
       where
         go : (map : List ℕ) (v : ℕ) (e : End) → OneOf (1 ∷ 2 ∷ 3 ∷ []) (tagOf the-type e) → OneOf (0 ∷ 1 ∷ 3 ∷ []) (tagOf the-type e)

@@ -1,13 +1,13 @@
 -- The room of a split, and the plan that a split's arrays come to.
 -- Assumes nothing.
-use mathlib.Core.Path.{_≡_, refl, sym, ap, ap₂, _∙_}
+use mathlib.Core.Path.{_≡_, refl, sym, ap, _∙_}
 use mathlib.Core.Bool.{Bool, true, false}
 use mathlib.Core.List.{List, [], _∷_, _++_, map, map-append, append-assoc}
 use Prim.Native.Nat.{ℕ, suc, _+_, _-_, _≤_, _<_}
 use native.Mathlib.Omega.{arith}
 use borrow.Author.Tests.{lt-ltb, le-ltb, ltb-true}
 use lib.Dec.{ltb}
-use lib.ListN.{length, set}
+use lib.ListN.{set}
 use Rattle.digits.specs.Choice.{pick}
 use Rattle.digits.specs.Headers.{headerOf}
 use Rattle.tree.specs.Stores.{Store, block, tab}
@@ -20,10 +20,10 @@ use Rattle.plan.specs.declared.Effect.{Effect}
 use Rattle.writing.specs.declared.splitting.Cleft.{Cleft}
 use Rattle.writing.specs.declared.splitting.Target.{Target}
 use Rattle.writing.specs.declared.splitting.Target.the-variants.{ALeaf, ANode}
-use Rattle.writing.specs.declared.splitting.Room.{Room}
 use Rattle.writing.specs.declared.splitting.Room.the-variants.{Slots, Full}
 use Rattle.writing.specs.Puts.{store, freeFrom, freeLeaf, freeNode, splitChild, targetHeader, splitStores, roomOf}
 use Rattle.writing.proofs.Arrays.{block-words, block-values, planned-by}
+use Rattle.writing.proofs.Counts.{leaf-split-count, node-split-count}
 use Rattle.writing.proofs.LowestFree.{free-found}
 
 -- ---- room
@@ -94,22 +94,13 @@ module _ (n : ℕ) (s : Cleft) (leaf node k v : ℕ) where
       in-three valueOf (block (leafWord leaf) (k ∷ v ∷ [])) (block (nodeWord n node) nodeValues) (targetHeader n s target) (store (s .at) (nodeRef node) ∷ [])
       ∙ ap (λ (l : List ℕ). (k ∷ v ∷ l) ++ map valueOf (lastStores target)) (block-values (nodeWord n node) nodeValues)
 
-  -- "20 stores for a leaf target, 21 for a node"
-  pub leaf-count : length (splitStores n s leaf node k v ALeaf) ≡ 20
-  unfolding block tab
-  leaf-count = refl
-
-  pub node-count : (j b : ℕ) → length (splitStores n s leaf node k v (ANode j b)) ≡ 21
-  unfolding block tab
-  node-count j b = refl
-
   module _ (e : Effect) {words values : List ℕ} {r : ℕ} (w : words ≡ padded firstWords) (u : values ≡ padded firstValues) (q : r ≡ nodeRef node) where
     -- the reference follows
     pub leaf-planned :
         _≡_ {A = Planned} (record { number = 0; plan = record { words = set words 19 (s .at); values = set values 19 r; count = 20; effect = e } })
         (plannedOf (decided (splitStores n s leaf node k v ALeaf) e))
     unfolding tab
-    leaf-planned = planned-by (splitStores n s leaf node k v ALeaf) e (rw (w, split-words ALeaf)) (rw (u, q, split-values ALeaf)) (sym leaf-count)
+    leaf-planned = planned-by (splitStores n s leaf node k v ALeaf) e (rw (w, split-words ALeaf)) (rw (u, q, split-values ALeaf)) (sym (leaf-split-count n s leaf node k v))
 
     -- the target's header follows, then the reference
     pub node-planned : (j b : ℕ) {x h : ℕ} → x ≡ nodeWord n j → h ≡ headerOf (s .diff + 1) (b - s .diff - 1) (s .near)
@@ -117,4 +108,4 @@ module _ (n : ℕ) (s : Cleft) (leaf node k v : ℕ) where
         (plannedOf (decided (splitStores n s leaf node k v (ANode j b)) e))
     unfolding tab
     node-planned j b p g =
-        planned-by (splitStores n s leaf node k v (ANode j b)) e (rw (w, p, split-words (ANode j b))) (rw (u, q, g, split-values (ANode j b))) (sym (node-count j b))
+        planned-by (splitStores n s leaf node k v (ANode j b)) e (rw (w, p, split-words (ANode j b))) (rw (u, q, g, split-values (ANode j b))) (sym (node-split-count n s leaf node k v j b))

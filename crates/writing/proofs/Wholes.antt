@@ -4,7 +4,7 @@ use mathlib.Core.Path.{_≡_, refl, sym, ap, _∙_}
 use mathlib.Core.Logic.{inl, inr}
 use mathlib.Core.Bool.{Bool, true, false}
 use mathlib.Core.List.{List, [], _∷_}
-use Prim.Native.Nat.{ℕ, _+_, _-_, _*_, _≤_, _<_}
+use Prim.Native.Nat.{ℕ, _-_, _*_, _≤_, _<_}
 use native.Mathlib.Omega.{arith}
 use borrow.Author.Tests.{eq-eqb, ne-eqb}
 use types.Run.{OneOf}
@@ -17,7 +17,7 @@ use Rattle.pool.specs.Sizes.{sizeOf, capacityOf, bytesOf, Sized}
 use Rattle.pool.specs.declared.Size.{Size}
 use Rattle.pool.specs.declared.Size.the-variants.{Holds, Wrong}
 use Rattle.pool.proofs.Sizes.{size-fits}
-use Rattle.plan.specs.Plans.{Decided, refused, plannedOf, after, finishOf, ran, runOf}
+use Rattle.plan.specs.Plans.{Decided, plannedOf, after, finishOf, ran, runOf}
 use Rattle.plan.specs.declared.Planned.{Planned}
 use Rattle.plan.proofs.Laws.{run-whole, length-made, length-finish}
 use Rattle.writing.specs.declared.calls.Done.{Done}

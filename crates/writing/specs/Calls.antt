@@ -1,6 +1,6 @@
 -- The whole calls: format, put and delete, and all that each leaves.
 -- Assumes nothing.
-use mathlib.Core.List.{List, [], _∷_}
+use mathlib.Core.List.{List}
 use Prim.Native.Nat.{ℕ}
 use lib.Dec.{eqb}
 use lib.ListN.{length, set, replicate}

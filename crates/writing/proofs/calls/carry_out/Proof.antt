@@ -5,7 +5,9 @@ use Rattle.writing.proofs.calls.carry_out.Statement.{statement}
 use Rattle.writing.proofs.calls.carry_out.Tie as tie
 
 returns : tie.Need-returns
-returns c = carried-not (c .before .before .before .args .planned) (c .before .before .before .args .pool .now) (c .before .before .before .args .map .now) (c .if1 .taken)
+returns c =
+    let a = c .before .before .before .args in
+    carried-not (a .planned) (a .pool .now) (a .map .now) (c .if1 .taken)
 
 run-requires : tie.Need-run-requires
 run-requires c κs = search needs
@@ -20,7 +22,11 @@ same-length-2 : tie.Need-same-length-2
 same-length-2 c = search needs
 
 returns-2 : tie.Need-returns-2
-returns-2 c = carried (c .before .before .before .before .before .before .before .before .before .before .before .before .args .planned) (c .before .before .before .before .before .before .before .before .before .before .before .before .args .pool .now) (c .before .before .before .before .before .before .before .before .before .before .before .before .args .map .now) (c .before .before .before .before .before .before .before .before .before .if1 .left) (c .before .before .before .before .before .before .run .ensures) (c .before .before .finish .ensures)
+returns-2 c =
+    let r = c .before .before .before .before .before .before in
+    let t = r .before .before .before in
+    let a = t .before .before .before .args in
+    carried (a .planned) (a .pool .now) (a .map .now) (t .if1 .left) (r .run .ensures) (c .before .before .finish .ensures)
 
 pub carry-out-spec : {M : Type 1} → statement M
 carry-out-spec =

@@ -45,7 +45,10 @@ same-length-4 : tie.Need-same-length-4
 same-length-4 c = search needs
 
 returns-3 : tie.Need-returns-3
-returns-3 c = delete-carried _ _ _ (c .before .before .before .before .before .before .before .before .before .before .before .before .before .capacity .ensures .0) (c .before .before .before .before .before .before .before .before .before .before .before .n .given .1) (c .before .before .before .before .before .before .before .before .before .if1 .left) (c .before .before .before .before .before .before .before .plan-delete .ensures) (c .before .before .before .before .carry-out .ensures)
+returns-3 c =
+    let p = c .before .before .before .before .before .before .before in
+    let n = p .before .before .before .before in
+    delete-carried _ _ _ (n .before .before .capacity .ensures .0) (n .n .given .1) (p .before .before .if1 .left) (p .plan-delete .ensures) (c .before .before .before .before .carry-out .ensures)
 
 pub delete-spec : {M : Type 1} → statement M
 delete-spec =

@@ -20,7 +20,9 @@ refused-requires : tie.Need-refused-requires
 refused-requires c κs = search needs
 
 returns : tie.Need-returns
-returns c = rw (← c .before .before .before .before .header .ensures, ← c .before .before .before .accept .ensures .0, c .before .enum-told .given .1) (c .refused .ensures)
+returns c =
+    let h = c .before .before .before .before in
+    rw (← h .header .ensures, ← c .before .before .before .accept .ensures .0, c .before .enum-told .given .1) (c .refused .ensures)
 
 lowest-leaf-requires : tie.Need-lowest-leaf-requires
 lowest-leaf-requires c κs = search needs
@@ -35,7 +37,10 @@ refused-requires-2 : tie.Need-refused-requires-2
 refused-requires-2 c κs = search needs
 
 returns-2 : tie.Need-returns-2
-returns-2 c = rw (← c .before .before .before .before .before .before .before .before .header .ensures, ← c .before .before .before .before .before .before .before .accept .ensures .0, c .before .before .before .before .before .b .given .1, ← c .before .before .before .lowest-leaf .ensures, c .before .enum-told2 .given .1) (c .refused2 .ensures)
+returns-2 c =
+    let b = c .before .before .before .before .before in
+    let h = b .before .before .before in
+    rw (← h .header .ensures, ← b .before .before .accept .ensures .0, b .b .given .1, ← c .before .before .before .lowest-leaf .ensures, c .before .enum-told2 .given .1) (c .refused2 .ensures)
 
 array-write-words : tie.Need-array-write-words
 array-write-words c = search needs
@@ -62,7 +67,11 @@ add-t18 : tie.Need-add-t18
 add-t18 c = search needs
 
 returns-3 : tie.Need-returns-3
-returns-3 c = rw (← c .before .before .before .before .before .before .before .before .before .before .before .before .header .ensures, ← c .before .before .before .before .before .before .before .before .before .before .before .accept .ensures .0, c .before .before .before .before .before .before .before .before .before .b .given .1, ← c .before .before .before .before .before .before .before .lowest-leaf .ensures, c .before .before .before .before .before .near .given .1, c .before .before .before .node-word .ensures, c .before .pack .ensures)
+returns-3 c =
+    let k = c .before .before .before .before .before in
+    let b = k .before .before .before .before in
+    let h = b .before .before .before in
+    rw (← h .header .ensures, ← b .before .before .accept .ensures .0, b .b .given .1, ← k .before .before .lowest-leaf .ensures, k .near .given .1, c .before .before .before .node-word .ensures, c .before .pack .ensures)
 
 pub lift-spec : {M : Type 1} → statement M
 lift-spec =

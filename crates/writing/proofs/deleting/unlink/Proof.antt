@@ -26,7 +26,9 @@ refused-requires-2 : tie.Need-refused-requires-2
 refused-requires-2 c κs = search needs
 
 returns-3 : tie.Need-returns-3
-returns-3 c = rw (← c .before .before .before .before .before .children .ensures, le-ltb _ _ (c .before .before .before .before .if1 .left), le-ltb _ _ (c .before .before .before .if2 .left), ← c .before .before .other-child .ensures, le-ltb _ _ (c .before .if3 .taken)) (c .refused2 .ensures)
+returns-3 c =
+    let n = c .before .before .before .before .before in
+    rw (← n .children .ensures, le-ltb _ _ (c .before .before .before .before .if1 .left), le-ltb _ _ (c .before .before .before .if2 .left), ← c .before .before .other-child .ensures, le-ltb _ _ (c .before .if3 .taken)) (c .refused2 .ensures)
 
 child-requires : tie.Need-child-requires
 child-requires c κs = search needs
@@ -35,7 +37,10 @@ merge-requires : tie.Need-merge-requires
 merge-requires c κs = search needs
 
 returns-4 : tie.Need-returns-4
-returns-4 c = rw (← c .before .before .before .before .before .before .children .ensures, le-ltb _ _ (c .before .before .before .before .before .if1 .left), le-ltb _ _ (c .before .before .before .before .if2 .left), ← c .before .before .before .other-child .ensures, lt-ltb _ _ (c .before .before .if3 .left), ← c .before .child .ensures) (c .merge .ensures)
+returns-4 c =
+    let o = c .before .before .before in
+    let n = o .before .before .before in
+    rw (← n .children .ensures, le-ltb _ _ (o .before .before .if1 .left), le-ltb _ _ (o .before .if2 .left), ← o .other-child .ensures, lt-ltb _ _ (c .before .before .if3 .left), ← c .before .child .ensures) (c .merge .ensures)
 
 pub unlink-spec : {M : Type 1} → statement M
 unlink-spec =

@@ -36,9 +36,9 @@ loop-less c = search needs
 
 loop-again : tie.Need-loop-again Inv-loop μ-loop
 loop-again c =
-    let m = c .before .before .before .before .before .args .map .now in
-    let l = c .before .before .before .loop in
-    (omega arith, free-past m (l .i) (c .before .before .before .before .before .args .to) 64 (omega arith) (eqb-true _ _ (sym (c .before .block-full .ensures) ∙ not-false _ (c .if1 .left))) ∙ l .inv .1)
+    let l = c .before .before .before in
+    let a = l .before .before .args in
+    (omega arith, free-past (a .map .now) (l .loop .i) (a .to) 64 (omega arith) (eqb-true _ _ (sym (c .before .block-full .ensures) ∙ not-false _ (c .if1 .left))) ∙ l .loop .inv .1)
 
 returns-2 : tie.Need-returns-2 Inv-loop μ-loop
 returns-2 c = c .before .loop .inv

@@ -23,13 +23,18 @@ enum-told : tie.Need-enum-told
 enum-told c = search needs
 
 returns-2 : tie.Need-returns-2
-returns-2 c = no-key-below (c .before .before .before .before .before .before .before .args .pool .now) _ _ _ (c .before .before .before .before .if1 .left) (c .before .before .lowest-leaf .ensures) (c .enum-told .given .1)
+returns-2 c =
+    let i = c .before .before .before .before in
+    no-key-below (i .before .before .before .args .pool .now) _ _ _ (i .if1 .left) (c .before .before .lowest-leaf .ensures) (c .enum-told .given .1)
 
 beside-requires : tie.Need-beside-requires
 beside-requires c κs = search needs
 
 returns-3 : tie.Need-returns-3
-returns-3 c = key-below (c .before .before .before .before .before .before .before .before .before .args .pool .now) _ _ _ (c .before .before .before .before .before .before .if1 .left) (c .before .before .before .before .lowest-leaf .ensures) (c .before .before .near .given .1) (c .beside .ensures)
+returns-3 c =
+    let k = c .before .before in
+    let i = k .before .before .before .before in
+    key-below (i .before .before .before .args .pool .now) _ _ _ (i .if1 .left) (k .before .before .lowest-leaf .ensures) (k .near .given .1) (c .beside .ensures)
 
 pub beside-empty-spec : {M : Type 1} → statement M
 beside-empty-spec =

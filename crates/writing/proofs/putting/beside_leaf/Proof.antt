@@ -14,7 +14,9 @@ beside-requires : tie.Need-beside-requires
 beside-requires c κs = search needs
 
 returns-2 : tie.Need-returns-2
-returns-2 c = key-other (c .before .before .before .before .args .pool .now) _ (c .before .before .before .before .pre .1) (c .before .before .leaf-key .ensures) (c .before .if1 .left) (c .beside .ensures)
+returns-2 c =
+    let s = c .before .before .before .before in
+    key-other (s .args .pool .now) _ (s .pre .1) (c .before .before .leaf-key .ensures) (c .before .if1 .left) (c .beside .ensures)
 
 pub beside-leaf-spec : {M : Type 1} → statement M
 beside-leaf-spec = tie.close (tie.spec leaf-key-requires returns beside-requires returns-2)

@@ -14,7 +14,9 @@ enum-known-end : tie.Need-enum-known-end
 enum-known-end c = search needs
 
 beside-leaf-requires : tie.Need-beside-leaf-requires
-beside-leaf-requires c κs = (c .before .before .before .before .before .pre, walk-inside (c .before .before .before .before .before .pre) _ 16 (sym (c .before .end .given .1) ∙ c .before .before .before .walk .ensures) .within)
+beside-leaf-requires c κs =
+    let z = c .before .before .before .before .before .pre in
+    (z, walk-inside z _ 16 (sym (c .before .end .given .1) ∙ c .before .before .before .walk .ensures) .within)
 
 returns : tie.Need-returns
 returns c = ends-lead (c .before .before .before .before .before .before .args .pool .now) _ _ (c .before .before .before .before .walk .ensures) (c .before .before .end .given .1) (c .beside-leaf .ensures)
@@ -27,12 +29,15 @@ returns-2 c = ends-damaged (c .before .before .before .before .args .pool .now) 
 
 beside-empty-requires : tie.Need-beside-empty-requires
 beside-empty-requires c κs =
-    let i = walk-inside (c .before .before .before .before .before .before .pre) _ 16 (sym (c .before .end2 .given .1) ∙ c .before .before .before .before .walk .ensures) .inside in
-    let o = over-inside (c .before .before .before .before .before .before .pre) i in
-    (c .before .before .before .before .before .before .pre, o .0, omega arith)
+    let z = c .before .before .before .before .before .before .pre in
+    let i = walk-inside z _ 16 (sym (c .before .end2 .given .1) ∙ c .before .before .before .before .walk .ensures) .inside in
+    let o = over-inside z i in
+    (z, o .0, omega arith)
 
 returns-3 : tie.Need-returns-3
-returns-3 c = ends-lead (c .before .before .before .before .before .before .before .args .pool .now) _ _ (c .before .before .before .before .before .walk .ensures) (c .before .before .end2 .given .1) (c .beside-empty .ensures)
+returns-3 c =
+    let w = c .before .before .before .before .before in
+    ends-lead (w .before .before .args .pool .now) _ _ (w .walk .ensures) (c .before .before .end2 .given .1) (c .beside-empty .ensures)
 
 pub find-place-spec : {M : Type 1} → statement M
 find-place-spec =

@@ -43,7 +43,9 @@ plan-at-requires c κs =
     (z .some, z .most, c .before .if1 .left, c .find-place .ensures .able)
 
 returns-3 : tie.Need-returns-3
-returns-3 c = c .plan-at .ensures ∙ ap plannedOf (put-placed _ _ _ _ (c .before .before .before .before .before .before .capacity .ensures .0) (c .before .before .before .before .n .given .1) (c .before .before .if1 .left) (c .before .find-place .ensures))
+returns-3 c =
+    let n = c .before .before .before .before in
+    c .plan-at .ensures ∙ ap plannedOf (put-placed _ _ _ _ (n .before .before .capacity .ensures .0) (n .n .given .1) (c .before .before .if1 .left) (c .before .find-place .ensures))
 
 pub plan-put-spec : {M : Type 1} → statement M
 plan-put-spec =

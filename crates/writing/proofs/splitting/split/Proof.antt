@@ -1,6 +1,6 @@
 -- `split` fills in the last one or two stores behind the first 19. It rests on the laws of room and of a split's arrays. Assumes nothing.
 use mathlib.Core.Path.{sym, _∙_}
-use Prim.Native.Nat.{_≤_, _<_}
+use Prim.Native.Nat.{_+_, _≤_, _<_}
 use native.Mathlib.Omega.{arith}
 use borrow.Author.Needs.{needs}
 use Rattle.pool.specs.Sizes.{bytesOf}
@@ -59,14 +59,22 @@ array-write-values c = search needs
 
 returns-2 : tie.Need-returns-2
 returns-2 c =
-    let a = c .before .before .before .before .before .before .before .before .before .before .args in
-    rw (c .enum-told2 .given .1, ← c .before .before .before .before .before .before .before .before .find-room .ensures, c .before .before .before .before .before .before .leaf .given .1)
-    (leaf-planned (a .n) (a .s) _ _ (a .key) (a .value) _ (c .before .before .before .before .split-words .ensures) (c .before .before .before .split-values .ensures) (c .before .before .node-ref .ensures))
+    let w = c .before .before .before .before in
+    let r = w .before .before .before .before in
+    let a = r .before .before .args in
+    rw (c .enum-told2 .given .1, ← r .find-room .ensures, w .before .before .leaf .given .1)
+    (leaf-planned (a .n) (a .s) _ _ (a .key) (a .value) _ (w .split-words .ensures) (c .before .before .before .split-values .ensures) (c .before .before .node-ref .ensures))
+
+-- a node that is split off branches past the first differing digit
+branch : (c : tie.After-known-told2)
+    → let a = c .before .before .before .before .before .before .before .before .before .before .before .args in
+    let j = c .before .target .given .0 .0 in
+    let b = c .before .target .given .0 .1 .0 in
+    (j + 1 < a .n) × (a .s .diff < b) × (b < 16)
+branch c = rw (c .before .target .given .1) at (c .before .before .before .before .before .before .before .before .before .before .before .pre .5)
 
 node-word-requires : tie.Need-node-word-requires
-node-word-requires c κs =
-    let t = rw (c .before .target .given .1) at (c .before .before .before .before .before .before .before .before .before .before .before .pre .5) in
-    (omega arith, omega arith)
+node-word-requires c κs = let t = branch c in (omega arith, omega arith)
 
 array-write-words-2 : tie.Need-array-write-words-2
 array-write-words-2 c = search needs
@@ -75,19 +83,13 @@ add-pack : tie.Need-add-pack
 add-pack c = search needs
 
 sub-pack : tie.Need-sub-pack
-sub-pack c =
-    let t = rw (c .before .before .before .before .target .given .1) at (c .before .before .before .before .before .before .before .before .before .before .before .before .before .before .pre .5) in
-    omega arith
+sub-pack c = let t = branch (c .before .before .before) in omega arith
 
 sub-pack-2 : tie.Need-sub-pack-2
-sub-pack-2 c =
-    let t = rw (c .before .before .before .before .target .given .1) at (c .before .before .before .before .before .before .before .before .before .before .before .before .before .before .pre .5) in
-    omega arith
+sub-pack-2 c = let t = branch (c .before .before .before) in omega arith
 
 pack-requires : tie.Need-pack-requires
-pack-requires c κs =
-    let t = rw (c .before .before .before .before .target .given .1) at (c .before .before .before .before .before .before .before .before .before .before .before .before .before .before .pre .5) in
-    omega arith
+pack-requires c κs = let t = branch (c .before .before .before) in omega arith
 
 array-write-values-2 : tie.Need-array-write-values-2
 array-write-values-2 c = search needs
@@ -100,9 +102,13 @@ array-write-values-3 c = search needs
 
 returns-3 : tie.Need-returns-3
 returns-3 c =
-    let a = c .before .before .before .before .before .before .before .before .before .before .before .before .before .before .before .args in
-    rw (c .before .before .before .before .before .target .given .1, ← c .before .before .before .before .before .before .before .before .before .before .before .before .before .find-room .ensures, c .before .before .before .before .before .before .before .before .before .before .before .leaf .given .1)
-    (node-planned (a .n) (a .s) _ _ (a .key) (a .value) _ (c .before .before .before .before .before .before .before .before .before .split-words .ensures) (c .before .before .before .before .before .before .before .before .split-values .ensures) (c .before .before .before .before .before .before .before .node-ref .ensures) _ _ (c .before .before .before .node-word .ensures) (c .pack .ensures))
+    let t = c .before .before .before .before .before in
+    let w = t .before .before .before .before in
+    let r = w .before .before .before .before in
+    let a = r .before .before .args in
+    rw (t .target .given .1, ← r .find-room .ensures, w .before .before .leaf .given .1)
+    (node-planned (a .n) (a .s) _ _ (a .key) (a .value) _ (w .split-words .ensures) (t .before .before .before .split-values .ensures) (t .before .before .node-ref .ensures)
+    _ _ (c .before .before .before .node-word .ensures) (c .pack .ensures))
 
 pub split-spec : {M : Type 1} → statement M
 split-spec =
