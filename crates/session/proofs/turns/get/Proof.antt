@@ -1,0 +1,24 @@
+use borrow.Author.Needs.{needs}
+use Rattle.session.specs.Turns.{printed}
+use Rattle.session.proofs.turns.get.Statement.{statement}
+use Rattle.session.proofs.turns.get.Tie as tie
+
+lookup-requires : tie.Need-lookup-requires
+lookup-requires c κs = search needs
+
+found-requires : tie.Need-found-requires
+found-requires c κs = search needs
+
+write-answer-requires : tie.Need-write-answer-requires
+write-answer-requires c κs = search needs
+
+same-length : tie.Need-same-length
+same-length c = search needs
+
+returns : tie.Need-returns
+unfolding printed
+returns c = rw (← c .before .before .before .before .before .lookup .ensures, ← c .before .before .before .before .found .ensures) (c .before .before .write-answer .ensures)
+
+pub get-spec : {M : Type 1} → statement M
+get-spec =
+    tie.close (tie.spec lookup-requires found-requires write-answer-requires same-length returns)
