@@ -1,2 +1,4 @@
 pub mod Pages
 pub mod Runs
+pub mod Texts
+pub mod Prints

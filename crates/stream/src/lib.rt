@@ -64,7 +64,9 @@ fn pass(
     pool: &mut [u64],
     map: &mut [u8],
     page: &mut [u8],
-) -> Passed {
+) -> Passed
+    requires { ⌜ 10263 ≤ length (now page) ⌝ }
+{
     let mut next = reader;
     let mut from = 0;
     while from < input.len() {
