@@ -6,15 +6,15 @@ use mathlib.Core.List.{List, [], _∷_, _++_, append-assoc, append-nil}
 use Prim.Native.Nat.{ℕ, _+_, _≤_, _<_}
 use native.Mathlib.Numerals.{add-one}
 use native.Mathlib.Omega.{arith}
-use borrow.Author.Tests.{le-ltb, leb-true}
+use borrow.Author.Tests.{le-ltb, leb-true, le-leb}
 use lib.ListN.{length, take, drop, length-append, length-drop}
 use lib.Seq.{length-take-le, take-append-seam}
 use Rattle.digits.specs.Choice.{pick}
 use Rattle.script.specs.Answers.{textOf, Page, page, written}
 use Rattle.script.specs.declared.answers.Answer.{Answer}
-use Rattle.session.specs.Turns.{printed}
-use Rattle.session.specs.Bytes.{Session, taken, afterByte, saidAt, Stream, onByte, roomy, Going, going, runOf}
-use Rattle.session.specs.Outputs.{afterBytes, saidBy, textsOf}
+use Rattle.session.specs.Turns.{printed, Acted}
+use Rattle.session.specs.Bytes.{Session, taken, afterByte, saidAt, lastTurn, Stream, onByte, onEnd, roomy, Going, going, runOf}
+use Rattle.session.specs.Outputs.{afterBytes, saidBy, saidLast, textsOf}
 use Rattle.session.proofs.Texts.{texts-append, turn-short}
 
 -- a page with a text more
@@ -106,6 +106,25 @@ pub run-moves : (input : List ℕ) (s : Stream) → 0 < length input → roomy (
 unfolding runOf
 run-moves [] s h e = omega arith
 run-moves (byte ∷ input) s h e = rw e (omega arith)
+
+-- how far a run comes, and that it stays on its page
+pub run-comes : (input : List ℕ) (s : Stream) (g : Going) → g ≡ runOf input s → s .page .end + 10263 ≤ length (s .page .bytes)
+    → (g .used ≤ length input) × (0 < length input → 0 < g .used) × (g .stream .page .end ≤ length (g .stream .page .bytes))
+run-comes input s g e room =
+    let r : Runs input s (runOf input s) = run-prints input s in
+    rw e (r .few, λ h. run-moves input s h (le-leb (s .page .end + 10263) (length (s .page .bytes)) room), r .fits (omega arith))
+
+-- the end of the input likewise
+pub end-prints : (s : Stream) → s .page .end + 10263 ≤ length (s .page .bytes) → Prints (s .page) (textsOf (saidLast (s .session))) (onEnd s .page)
+end-prints s room =
+    let short : length (textsOf (saidLast (s .session))) ≤ 10263 = turn-short (lastTurn (s .session)) (s .session .memory) in
+    answers-print (saidLast (s .session)) (s .page) (omega arith)
+
+pub end-comes : (s : Stream) (a : Acted) → a ≡ onEnd s → s .page .end + 10263 ≤ length (s .page .bytes) → a .page .end ≤ length (a .page .bytes)
+end-comes s a e room =
+    let short : length (textsOf (saidLast (s .session))) ≤ 10263 = turn-short (lastTurn (s .session)) (s .session .memory) in
+    let p : Prints (s .page) (textsOf (saidLast (s .session))) (onEnd s .page) = end-prints s room in
+    rw e (omega (arith, p .ends, p .keeps))
 
 -- an input that comes in pieces prints what it prints whole
 pub pieces-leave : (piece input : List ℕ) (s : Session) → afterBytes (piece ++ input) s ≡ afterBytes input (afterBytes piece s)

@@ -25,15 +25,20 @@ pub enum Passed {
 // Bytes of a line that are kept: one more than a right line can have, so that a longer one is seen to be too long.
 const LINE: usize = 64;
 
-// Whether the next bytes of a descriptor are these.
+// Whether the next bytes of a descriptor are these. `space` is as long as the text.
+fn reads_as(fd: i32, text: &[u8], space: &mut [u8]) -> bool {
+    let got = io::read_full(fd, space);
+    check::same(text, &space[0..got])
+}
+
+// The same, for a text of a page at most.
 fn matches(fd: i32, text: &[u8]) -> bool {
     let mut space = io::large_buffer();
-    if space.len() < text.len() {
+    let n = text.len();
+    if space.len() < n {
         return false;
     }
-    let n = text.len();
-    let got = io::read_full(fd, &mut space[..n]);
-    check::same(text, &space[..got])
+    reads_as(fd, text, &mut space[0..n])
 }
 
 // Hands a text on; whether it was taken.
@@ -65,20 +70,39 @@ fn pass(
     map: &mut [u8],
     page: &mut [u8],
 ) -> Passed
-    requires { ⌜ 10263 ≤ length (now page) ⌝ }
+    requires { ⌜ (length (now input) ≤ 65536) × (10263 ≤ length (now page)) ⌝ }
 {
     let mut next = reader;
     let mut from = 0;
     while from < input.len() {
         let p = session::run(next, &input[from..], line, pool, map, page);
         let end = p.end;
-        if !hand_on(sink, &page[..end]) {
+        let used = p.used;
+        if !hand_on(sink, &page[0..end]) {
             return Passed::Stopped;
         }
         next = p.reader;
-        from += p.used;
+        from += used;
     }
     Passed::On(next)
+}
+
+// Takes the end of the input; whether all that was printed was taken.
+fn close(
+    sink: Sink,
+    reader: Reader,
+    line: &[u8],
+    pool: &mut [u64],
+    map: &mut [u8],
+    page: &mut [u8],
+) -> bool
+    requires { ⌜ 10263 ≤ length (now page) ⌝ }
+{
+    let end = session::finish(reader, line, pool, map, page);
+    if !hand_on(sink, &page[0..end]) {
+        return false;
+    }
+    at_end(sink)
 }
 
 // Runs a session on all that can be read from `source`. A loop that is proved to end counts its turns down, from a number that no run uses up.
@@ -97,15 +121,14 @@ pub fn play(source: i32, sink: Sink, pool: &mut [u64], map: &mut [u8]) -> End {
             break;
         }
         let n = io::count(got, &input);
-        let Passed::On(next) = pass(sink, reader, &input[..n], &mut line, pool, map, &mut page)
+        let Passed::On(next) = pass(sink, reader, &input[0..n], &mut line, pool, map, &mut page)
         else {
             return End::NotTaken;
         };
         reader = next;
         turns -= 1;
     }
-    let end = session::finish(reader, &line, pool, map, &mut page);
-    if hand_on(sink, &page[..end]) && at_end(sink) {
+    if close(sink, reader, &line, pool, map, &mut page) {
         End::Whole
     } else {
         End::NotTaken

@@ -1,99 +1,100 @@
+-- `pass` runs the session piece by piece: each run takes a byte at least and stays on the page (session's `run-comes`). Assumes nothing.
+use mathlib.Core.Path.{_≡_, refl}
+use Prim.Native.Nat.{_-_, _≤_}
+use native.Mathlib.Omega.{arith}
+use borrow.Author.Needs.{needs}
+use lib.ListN.{length}
+use Rattle.script.specs.Answers.{page}
+use Rattle.session.specs.Bytes.{stream}
+use Rattle.session.proofs.Prints.{run-comes}
+use Rattle.stream.proofs.Parts.{part-length}
 use Rattle.stream.proofs.pass.Statement.{statement}
 use Rattle.stream.proofs.pass.Tie as tie
-use Rattle.stream.proofs.pass.Reads as reads
-use Rattle.stream.proofs.pass.Lts as lts
-use Rattle.session.proofs.run.Reads as run-reads
-use Rattle.stream.proofs.hand_on.Reads as hand-on-reads
 
 abbrev Inv-loop : tie.InvT-loop
-Inv-loop sink input line₀ pool₀ map₀ page₀ next₀ from₀ line pool map page next from = ?
+Inv-loop sink input line₀ pool₀ map₀ page₀ next₀ from₀ line pool map page next from =
+    (from ≤ length input) × (length line ≡ length line₀) × (length pool ≡ length pool₀) × (length map ≡ length map₀) × (length page ≡ length page₀)
 
 abbrev μ-loop : tie.MeasureT-loop
-μ-loop sink input line₀ pool₀ map₀ page₀ next₀ from₀ line pool map page next from = ?
+μ-loop sink input line₀ pool₀ map₀ page₀ next₀ from₀ line pool map page next from = length input - from
 
--- src/lib.rt:72:5
 loop-holds : tie.Need-loop-holds Inv-loop μ-loop
-loop-holds c = ?
+loop-holds c = (omega arith, refl, refl, refl, refl)
 
--- src/lib.rt:73:36
 sub-run : tie.Need-sub-run Inv-loop μ-loop
-sub-run c = ?
+sub-run c = omega arith
 
--- src/lib.rt:73:36
 part-run-start : tie.Need-part-run-start Inv-loop μ-loop
-part-run-start c = ?
+part-run-start c = omega arith
 
--- src/lib.rt:73:36
 part-run-end : tie.Need-part-run-end Inv-loop μ-loop
-part-run-end c = ?
+part-run-end c = omega arith
 
--- src/lib.rt:73:13
 run-requires : tie.Need-run-requires Inv-loop μ-loop
-run-requires c κs = ?
+run-requires c κs = search needs
 
--- src/lib.rt:75:27
-slice-reshare-prefix-hand-on : tie.Need-slice-reshare-prefix-hand-on Inv-loop μ-loop
-slice-reshare-prefix-hand-on c = ?
+sub-hand-on : tie.Need-sub-hand-on Inv-loop μ-loop
+sub-hand-on c = omega arith
 
--- src/lib.rt:75:27
-slice-aggregate-hand-on : tie.Need-slice-aggregate-hand-on Inv-loop μ-loop
-slice-aggregate-hand-on c = ?
+part-hand-on-start : tie.Need-part-hand-on-start Inv-loop μ-loop
+part-hand-on-start c = omega arith
 
--- src/lib.rt:75:13
+part-hand-on-end : tie.Need-part-hand-on-end Inv-loop μ-loop
+part-hand-on-end c = let l = c .before .before .before .before .before .before .before .before .before .before .before .before .before .before .before .before .loop in
+    let f = run-comes _ (stream (l .next) (l .line) (l .pool) (l .map) (page (l .page) 0)) _ (c .before .before .before .before .before .before .before .before .before .run .ensures) (omega arith) in
+    omega (arith, f .2)
+
 hand-on-requires : tie.Need-hand-on-requires Inv-loop μ-loop
-hand-on-requires c κs = ?
+hand-on-requires c κs = search needs
 
--- src/lib.rt:76:13
 same-length : tie.Need-same-length Inv-loop μ-loop
-same-length c = ?
+same-length c = omega arith
 
--- src/lib.rt:76:13
 same-length-2 : tie.Need-same-length-2 Inv-loop μ-loop
-same-length-2 c = ?
+same-length-2 c = omega arith
 
--- src/lib.rt:76:13
 same-length-3 : tie.Need-same-length-3 Inv-loop μ-loop
-same-length-3 c = ?
+same-length-3 c = omega arith
 
--- src/lib.rt:76:13
 same-length-4 : tie.Need-same-length-4 Inv-loop μ-loop
-same-length-4 c = ?
+same-length-4 c = omega arith
 
--- src/lib.rt:76:13
 returns : tie.Need-returns Inv-loop μ-loop
-returns c = ?
+returns c = search needs
 
--- src/lib.rt:79:9
 add-from : tie.Need-add-from Inv-loop μ-loop
-add-from c = ?
+add-from c = let l = c .before .before .before .before .before .before .before .before .before .before .before .before .before .before .before .before .before .before .before .before .loop in
+    let a = c .before .before .before .before .before .before .before .before .before .before .before .before .before .before .before .before .before .before .before .before .before .before .before .before .before .before .args in
+    let f = run-comes _ (stream (l .next) (l .line) (l .pool) (l .map) (page (l .page) 0)) _ (c .before .before .before .before .before .before .before .before .before .before .before .before .before .run .ensures) (omega arith) in
+    omega (arith, f .0, part-length (length (a .input .now)) (l .from) (a .input .now) refl)
 
--- src/lib.rt:72:5
 loop-less : tie.Need-loop-less Inv-loop μ-loop
-loop-less c = ?
+loop-less c = let l = c .before .before .before .before .before .before .before .before .before .before .before .before .before .before .before .before .before .before .before .before .loop in
+    let a = c .before .before .before .before .before .before .before .before .before .before .before .before .before .before .before .before .before .before .before .before .before .before .before .before .before .before .args in
+    let f = run-comes _ (stream (l .next) (l .line) (l .pool) (l .map) (page (l .page) 0)) _ (c .before .before .before .before .before .before .before .before .before .before .before .before .before .run .ensures) (omega arith) in
+    let p = part-length (length (a .input .now)) (l .from) (a .input .now) refl in
+    omega (arith, f .0, f .1 (omega (arith, p)), p)
 
--- src/lib.rt:72:5
 loop-again : tie.Need-loop-again Inv-loop μ-loop
-loop-again c = ?
+loop-again c = let l = c .before .before .before .before .before .before .before .before .before .before .before .before .before .before .before .before .before .before .before .before .loop in
+    let a = c .before .before .before .before .before .before .before .before .before .before .before .before .before .before .before .before .before .before .before .before .before .before .before .before .before .before .args in
+    let f = run-comes _ (stream (l .next) (l .line) (l .pool) (l .map) (page (l .page) 0)) _ (c .before .before .before .before .before .before .before .before .before .before .before .before .before .run .ensures) (omega arith) in
+    (omega (arith, f .0, part-length (length (a .input .now)) (l .from) (a .input .now) refl), omega arith, omega arith, omega arith, omega arith)
 
--- src/lib.rt:59:1
 same-length-5 : tie.Need-same-length-5 Inv-loop μ-loop
-same-length-5 c = ?
+same-length-5 c = omega arith
 
--- src/lib.rt:59:1
 same-length-6 : tie.Need-same-length-6 Inv-loop μ-loop
-same-length-6 c = ?
+same-length-6 c = omega arith
 
--- src/lib.rt:59:1
 same-length-7 : tie.Need-same-length-7 Inv-loop μ-loop
-same-length-7 c = ?
+same-length-7 c = omega arith
 
--- src/lib.rt:59:1
 same-length-8 : tie.Need-same-length-8 Inv-loop μ-loop
-same-length-8 c = ?
+same-length-8 c = omega arith
 
--- src/lib.rt:59:1
 returns-2 : tie.Need-returns-2 Inv-loop μ-loop
-returns-2 c = ?
+returns-2 c = search needs
 
 pub pass-spec : {M : Type 1} → statement M
 pass-spec =
@@ -106,8 +107,9 @@ pass-spec =
     part-run-start
     part-run-end
     run-requires
-    slice-reshare-prefix-hand-on
-    slice-aggregate-hand-on
+    sub-hand-on
+    part-hand-on-start
+    part-hand-on-end
     hand-on-requires
     same-length
     same-length-2

@@ -1,0 +1,157 @@
+-- `play` is safe and ends: its turns are counted down. Assumes nothing.
+use mathlib.Core.Path.{_≡_, refl, sym}
+use native.Mathlib.Omega.{arith}
+use borrow.Author.Needs.{needs}
+use lib.ListN.{length}
+use Rattle.stream.proofs.play.Statement.{statement}
+use Rattle.stream.proofs.play.Tie as tie
+
+abbrev Inv-loop : tie.InvT-loop
+Inv-loop source sink pool₀ map₀ line₀ input₀ page₀ reader₀ turns₀ pool map line input page reader turns =
+    (length pool ≡ length pool₀) × (length map ≡ length map₀) × (length line ≡ 64) × (length input ≡ 65536) × (length page ≡ 65536)
+
+abbrev μ-loop : tie.MeasureT-loop
+μ-loop source sink pool₀ map₀ line₀ input₀ page₀ reader₀ turns₀ pool map line input page reader turns = turns
+
+large-buffer-requires : tie.Need-large-buffer-requires Inv-loop μ-loop
+large-buffer-requires c κs = search needs
+
+large-buffer-requires-2 : tie.Need-large-buffer-requires-2 Inv-loop μ-loop
+large-buffer-requires-2 c κs = search needs
+
+new-requires : tie.Need-new-requires Inv-loop μ-loop
+new-requires c κs = search needs
+
+loop-holds : tie.Need-loop-holds Inv-loop μ-loop
+loop-holds c = search needs
+
+slice-aggregate-read : tie.Need-slice-aggregate-read Inv-loop μ-loop
+slice-aggregate-read c = search needs
+
+read-requires : tie.Need-read-requires Inv-loop μ-loop
+read-requires c κs = search needs
+
+same-length : tie.Need-same-length Inv-loop μ-loop
+same-length c = search needs
+
+same-length-2 : tie.Need-same-length-2 Inv-loop μ-loop
+same-length-2 c = search needs
+
+returns : tie.Need-returns Inv-loop μ-loop
+returns c = search needs
+
+slice-aggregate-count : tie.Need-slice-aggregate-count Inv-loop μ-loop
+slice-aggregate-count c = search needs
+
+count-requires : tie.Need-count-requires Inv-loop μ-loop
+count-requires c κs = search needs
+
+sub-pass : tie.Need-sub-pass Inv-loop μ-loop
+sub-pass c = search needs
+
+part-pass-start : tie.Need-part-pass-start Inv-loop μ-loop
+part-pass-start c = search needs
+
+part-pass-end : tie.Need-part-pass-end Inv-loop μ-loop
+part-pass-end c = search needs
+
+slice-aggregate-pass : tie.Need-slice-aggregate-pass Inv-loop μ-loop
+slice-aggregate-pass c = search needs
+
+slice-aggregate-pass-2 : tie.Need-slice-aggregate-pass-2 Inv-loop μ-loop
+slice-aggregate-pass-2 c = search needs
+
+pass-requires : tie.Need-pass-requires Inv-loop μ-loop
+pass-requires c κs = search needs
+
+enum-known-next : tie.Need-enum-known-next Inv-loop μ-loop
+enum-known-next c = search needs
+
+enum-told : tie.Need-enum-told Inv-loop μ-loop
+enum-told c = search needs
+
+same-length-3 : tie.Need-same-length-3 Inv-loop μ-loop
+same-length-3 c = search needs
+
+same-length-4 : tie.Need-same-length-4 Inv-loop μ-loop
+same-length-4 c = search needs
+
+returns-2 : tie.Need-returns-2 Inv-loop μ-loop
+returns-2 c = search needs
+
+sub-turns : tie.Need-sub-turns Inv-loop μ-loop
+sub-turns c = search needs
+
+loop-less : tie.Need-loop-less Inv-loop μ-loop
+loop-less c = search needs
+
+loop-again : tie.Need-loop-again Inv-loop μ-loop
+loop-again c = search needs
+
+slice-aggregate-close : tie.Need-slice-aggregate-close Inv-loop μ-loop
+slice-aggregate-close c = search needs
+
+slice-aggregate-close-2 : tie.Need-slice-aggregate-close-2 Inv-loop μ-loop
+slice-aggregate-close-2 c = search needs
+
+close-requires : tie.Need-close-requires Inv-loop μ-loop
+close-requires c κs = search needs
+
+same-length-5 : tie.Need-same-length-5 Inv-loop μ-loop
+same-length-5 c = search needs
+
+same-length-6 : tie.Need-same-length-6 Inv-loop μ-loop
+same-length-6 c = search needs
+
+returns-3 : tie.Need-returns-3 Inv-loop μ-loop
+returns-3 c = search needs
+
+same-length-7 : tie.Need-same-length-7 Inv-loop μ-loop
+same-length-7 c = search needs
+
+same-length-8 : tie.Need-same-length-8 Inv-loop μ-loop
+same-length-8 c = search needs
+
+returns-4 : tie.Need-returns-4 Inv-loop μ-loop
+returns-4 c = search needs
+
+pub play-spec : {M : Type 1} → statement M
+play-spec =
+    tie.close
+    (tie.spec
+    Inv-loop
+    μ-loop
+    large-buffer-requires
+    large-buffer-requires-2
+    new-requires
+    loop-holds
+    slice-aggregate-read
+    read-requires
+    same-length
+    same-length-2
+    returns
+    slice-aggregate-count
+    count-requires
+    sub-pass
+    part-pass-start
+    part-pass-end
+    slice-aggregate-pass
+    slice-aggregate-pass-2
+    pass-requires
+    enum-known-next
+    enum-told
+    same-length-3
+    same-length-4
+    returns-2
+    sub-turns
+    loop-less
+    loop-again
+    slice-aggregate-close
+    slice-aggregate-close-2
+    close-requires
+    same-length-5
+    same-length-6
+    returns-3
+    same-length-7
+    same-length-8
+    returns-4)
