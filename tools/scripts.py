@@ -182,9 +182,8 @@ def main(crate):
         write(os.path.join(data, name + ".in"), script)
         write(os.path.join(data, name + ".out"), model.run(script))
     names = sorted(f[:-3] for f in os.listdir(data) if f.endswith(".in"))
-    counts = [len(model.lines_of(read(os.path.join(data, name + ".in")))) for name in names]
     write(os.path.join(crate, "stdin"), text(line for name in names for line in (name + ".in", name + ".out")))
-    write(os.path.join(crate, "stdout"), text("%s.in %d lines as expected" % pair for pair in zip(names, counts)))
+    write(os.path.join(crate, "stdout"), text(name + ".in answers as expected" for name in names))
 
 
 if __name__ == "__main__":

@@ -1,4 +1,4 @@
-//! The language of the program `names`, over any maker of the calls: it holds the model against the scripts in vectors/.
+//! The language of the program `names`, over any maker of the calls: it holds the model and the library against the scripts of crates/scripts/data.
 
 use crate::answers::*;
 use std::fmt::Write;

@@ -1,21 +1,18 @@
-//! The scripts in vectors/, over the model and over the library: what `names` is to print, to the letter.
+//! The scripts of the program `scripts`, over the model and over the library: what `names` is to print, to the letter.
 
 use std::fs;
 use std::path::{Path, PathBuf};
 use wort_host::{names, Calls, Library, Model};
 
 fn scripts() -> Vec<PathBuf> {
-    let dir = Path::new(env!("CARGO_MANIFEST_DIR")).join("../vectors");
-    let Ok(entries) = fs::read_dir(&dir) else {
-        eprintln!("vectors/ is not there: its scripts are not run");
-        return Vec::new();
-    };
-    let mut scripts: Vec<PathBuf> = entries
+    let dir = Path::new(env!("CARGO_MANIFEST_DIR")).join("../crates/scripts/data");
+    let mut scripts: Vec<PathBuf> = fs::read_dir(&dir)
+        .expect("the folder of the scripts")
         .map(|entry| entry.expect("a readable directory").path())
         .filter(|path| path.extension().is_some_and(|end| end == "in"))
         .collect();
     scripts.sort();
-    assert!(!scripts.is_empty(), "vectors/ holds no script");
+    assert!(!scripts.is_empty(), "{} holds no script", dir.display());
     scripts
 }
 

@@ -2,10 +2,10 @@
 -- Assumes nothing.
 use mathlib.Core.Path.{_≡_, refl, ap, _∙_}
 use mathlib.Core.List.{List, [], _∷_, _++_}
-use Prim.Native.Nat.{ℕ, zero, suc, min}
-use lib.ListN.{length, getD}
+use Prim.Native.Nat.{ℕ, zero, suc}
+use lib.ListN.{getD}
 use Rattle.digits.specs.Loops.{upto}
-use Rattle.script.specs.Answers.{Page, textOf, written, entriesOf, listingOf}
+use Rattle.script.specs.Answers.{Page, textOf, written, entriesOf}
 use Rattle.script.specs.declared.answers.Answer.{Answer}
 use Rattle.script.specs.declared.answers.Answer.the-variants.{Entry, End}
 use Rattle.session.specs.Turns.{entries, printed}

@@ -1,6 +1,5 @@
 -- `play` is safe and ends: its turns are counted down. Assumes nothing.
-use mathlib.Core.Path.{_≡_, refl, sym}
-use native.Mathlib.Omega.{arith}
+use mathlib.Core.Path.{_≡_}
 use borrow.Author.Needs.{needs}
 use lib.ListN.{length}
 use Rattle.stream.proofs.play.Statement.{statement}
