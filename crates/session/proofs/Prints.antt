@@ -13,7 +13,7 @@ use Rattle.digits.specs.Choice.{pick}
 use Rattle.script.specs.Answers.{textOf, Page, page, written}
 use Rattle.script.specs.declared.answers.Answer.{Answer}
 use Rattle.session.specs.Turns.{printed, Acted}
-use Rattle.session.specs.Bytes.{Session, taken, afterByte, saidAt, lastTurn, Stream, onByte, onEnd, roomy, Going, going, runOf}
+use Rattle.session.specs.Bytes.{Session, taken, afterByte, saidAt, lastTurn, Stream, onByte, onEnd, roomy, Going, going, runOf, most}
 use Rattle.session.specs.Outputs.{afterBytes, saidBy, saidLast, textsOf}
 use Rattle.session.proofs.Texts.{texts-append, turn-short}
 
@@ -76,12 +76,12 @@ runs-none : (input : List ℕ) (s : Stream) → Runs input s (going 0 s)
 unfolding afterBytes saidBy textsOf
 runs-none input s = record { few = omega arith; session = refl; prints = prints-none (s .page); fits = λ h. h }
 
-runs-more : (byte : ℕ) (input : List ℕ) (s : Stream) (g : Going) → s .page .end + 10263 ≤ length (s .page .bytes)
+runs-more : (byte : ℕ) (input : List ℕ) (s : Stream) (g : Going) → s .page .end + most ≤ length (s .page .bytes)
     → Runs input (onByte byte s) g → Runs (byte ∷ input) s (going (g .used + 1) (g .stream))
 unfolding afterBytes saidBy
 runs-more byte input s g room r =
     let said : List Answer = saidAt byte (s .session) in
-    let short : length (textsOf said) ≤ 10263 = turn-short (taken byte (s .session) .taken .turn) (s .session .memory) in
+    let short : length (textsOf said) ≤ most = turn-short (taken byte (s .session) .taken .turn) (s .session .memory) in
     let one : Prints (s .page) (textsOf said) (printed said (s .page)) = answers-print said (s .page) (omega arith) in
     let rest : List Answer = saidBy (take (g .used) input) (afterByte byte (s .session)) in
     rw add-one record {
@@ -98,7 +98,7 @@ run-prints (byte ∷ input) s = go (runOf input (onByte byte s)) (run-prints inp
   where
     go : (g : Going) → Runs input (onByte byte s) g → (b : Bool) → roomy (s .page) ≡ b
         → Runs (byte ∷ input) s (pick b (going (g .used + 1) (g .stream)) (going 0 s))
-    go g r true e = runs-more byte input s g (leb-true (s .page .end + 10263) (length (s .page .bytes)) e) r
+    go g r true e = runs-more byte input s g (leb-true (s .page .end + most) (length (s .page .bytes)) e) r
     go g r false e = runs-none (byte ∷ input) s
 
 -- a run takes a byte, where there is one and the page has room
@@ -108,21 +108,21 @@ run-moves [] s h e = omega arith
 run-moves (byte ∷ input) s h e = rw e (omega arith)
 
 -- how far a run comes, and that it stays on its page
-pub run-comes : (input : List ℕ) (s : Stream) (g : Going) → g ≡ runOf input s → s .page .end + 10263 ≤ length (s .page .bytes)
+pub run-comes : (input : List ℕ) (s : Stream) (g : Going) → g ≡ runOf input s → s .page .end + most ≤ length (s .page .bytes)
     → (g .used ≤ length input) × (0 < length input → 0 < g .used) × (g .stream .page .end ≤ length (g .stream .page .bytes))
 run-comes input s g e room =
     let r : Runs input s (runOf input s) = run-prints input s in
-    rw e (r .few, λ h. run-moves input s h (le-leb (s .page .end + 10263) (length (s .page .bytes)) room), r .fits (omega arith))
+    rw e (r .few, λ h. run-moves input s h (le-leb (s .page .end + most) (length (s .page .bytes)) room), r .fits (omega arith))
 
 -- the end of the input likewise
-pub end-prints : (s : Stream) → s .page .end + 10263 ≤ length (s .page .bytes) → Prints (s .page) (textsOf (saidLast (s .session))) (onEnd s .page)
+pub end-prints : (s : Stream) → s .page .end + most ≤ length (s .page .bytes) → Prints (s .page) (textsOf (saidLast (s .session))) (onEnd s .page)
 end-prints s room =
-    let short : length (textsOf (saidLast (s .session))) ≤ 10263 = turn-short (lastTurn (s .session)) (s .session .memory) in
+    let short : length (textsOf (saidLast (s .session))) ≤ most = turn-short (lastTurn (s .session)) (s .session .memory) in
     answers-print (saidLast (s .session)) (s .page) (omega arith)
 
-pub end-comes : (s : Stream) (a : Acted) → a ≡ onEnd s → s .page .end + 10263 ≤ length (s .page .bytes) → a .page .end ≤ length (a .page .bytes)
+pub end-comes : (s : Stream) (a : Acted) → a ≡ onEnd s → s .page .end + most ≤ length (s .page .bytes) → a .page .end ≤ length (a .page .bytes)
 end-comes s a e room =
-    let short : length (textsOf (saidLast (s .session))) ≤ 10263 = turn-short (lastTurn (s .session)) (s .session .memory) in
+    let short : length (textsOf (saidLast (s .session))) ≤ most = turn-short (lastTurn (s .session)) (s .session .memory) in
     let p : Prints (s .page) (textsOf (saidLast (s .session))) (onEnd s .page) = end-prints s room in
     rw e (omega (arith, p .ends, p .keeps))
 

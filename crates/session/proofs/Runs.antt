@@ -14,7 +14,7 @@ use lib.Seq.{drop-cons}
 use Rattle.script.specs.Input.{Taking, taking, endOf}
 use Rattle.script.specs.declared.input.Taken.{Taken}
 use Rattle.session.specs.Turns.{leaves, answersOf, printed, Acted, turned}
-use Rattle.session.specs.Bytes.{taken, Stream, onByte, onEnd, roomy, Going, going, runOf}
+use Rattle.session.specs.Bytes.{taken, Stream, onByte, onEnd, roomy, Going, going, runOf, most}
 
 -- a byte that was taken and whose turn was carried out
 pub byte-taken : (byte : ℕ) (s : Stream) (t : Taken) (line : List ℕ) (a : Acted) → taking t line ≡ taken byte (s .session)
@@ -71,9 +71,9 @@ pub run-full : (used : ℕ) (input : List ℕ) (s : Stream) → roomy (s .page) 
 run-full used input s r = run-stops used (drop used input) s r
 
 -- room, compared with no sum
-pub room-left : (at n : ℕ) → 10263 ≤ n → leb at (n - 10263) ≡ leb (at + 10263) n
-room-left at n h = go (leb (at + 10263) n) refl
+pub room-left : (at n : ℕ) → most ≤ n → leb at (n - most) ≡ leb (at + most) n
+room-left at n h = go (leb (at + most) n) refl
   where
-    go : (b : Bool) → leb (at + 10263) n ≡ b → leb at (n - 10263) ≡ b
-    go true e = le-leb at (n - 10263) (omega (arith, leb-true (at + 10263) n e))
-    go false e = lt-leb at (n - 10263) (omega (arith, leb-false (at + 10263) n e))
+    go : (b : Bool) → leb (at + most) n ≡ b → leb at (n - most) ≡ b
+    go true e = le-leb at (n - most) (omega (arith, leb-true (at + most) n e))
+    go false e = lt-leb at (n - most) (omega (arith, leb-false (at + most) n e))

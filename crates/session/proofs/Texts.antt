@@ -15,6 +15,7 @@ use Rattle.script.specs.declared.turns.Turn.{Turn}
 use Rattle.script.specs.declared.turns.Turn.the-variants.{Put, Delete, Get, Listing, CutPut, CutDelete, Nothing, Wrong}
 use Rattle.script.proofs.Texts.{places-le}
 use Rattle.session.specs.Turns.{Memory, entries, answersOf}
+use Rattle.session.specs.Bytes.{most}
 use Rattle.session.specs.Outputs.{textsOf}
 
 digits-length : (base k x : ℕ) → length (lastDigits base k x) ≡ k
@@ -76,10 +77,10 @@ listed-few pool from ks vs _ (buffers c h) = refl
 listed-few pool from ks vs _ (damage c h) = length-replicate (length ks) 0
 listed-few pool from ks vs _ (done v c e h b) = b .keys≡
 
-one-short : (a : Answer) → length (textsOf (a ∷ [])) ≤ 10263
+one-short : (a : Answer) → length (textsOf (a ∷ [])) ≤ most
 one-short a = omega (arith, one-text a, text-short a)
 
-list-short : (pool : List ℕ) → length (textsOf (answersOf Listing record { pool = pool; map = [] })) ≤ 10263
+list-short : (pool : List ℕ) → length (textsOf (answersOf Listing record { pool = pool; map = [] })) ≤ most
 unfolding answersOf
 list-short pool =
     let ks : List ℕ = replicate 256 0 in
@@ -88,7 +89,7 @@ list-short pool =
     let few : length (s .keys) ≡ 256 = listed-few pool 0 ks ks s (list-answers pool 0 ks ks) ∙ length-replicate {A = ℕ} 256 0 in
     omega (arith, more-text (entries n (s .keys) (s .values)) (print.End (s .answer .count)), end-short (s .answer .count), entries-short n (s .keys) (s .values), few)
 
-pub turn-short : (t : Turn) (m : Memory) → length (textsOf (answersOf t m)) ≤ 10263
+pub turn-short : (t : Turn) (m : Memory) → length (textsOf (answersOf t m)) ≤ most
 unfolding answersOf textsOf
 turn-short (Put key value) m = one-short _
 turn-short (Delete key) m = one-short _

@@ -48,9 +48,13 @@ onByte byte s = record { session = afterByte byte (s .session); page = printed (
 abbrev pub onEnd : Stream → Acted
 onEnd s = turned (lastTurn (s .session)) (s .session .memory) (s .page)
 
--- whether a page has room for what any turn prints: at most 256 entries of 40 bytes each, and their count, which is 23
+-- bytes that a turn prints, at most: 256 entries of 40 bytes each, and their count, which is 23
+abbrev pub most : ℕ
+most = 10263
+
+-- whether a page has room for what any turn prints
 abbrev pub roomy : Page → Bool
-roomy p = leb (p .end + 10263) (length (p .bytes))
+roomy p = leb (p .end + most) (length (p .bytes))
 
 -- how many bytes were taken, and the stream after them
 pub record Going : Type 0 where

@@ -1,6 +1,7 @@
 // A session from one descriptor to another: reads, lends what it read to the session, and hands on what the session printed.
 ghost use Prim.Native.Nat.{_≤_};
 ghost use lib.ListN.{length};
+ghost use Rattle.session.specs.Bytes.{most};
 use script::Reader;
 
 // Where the answers go: they are written to a descriptor, or held against what is read from it.
@@ -70,7 +71,7 @@ fn pass(
     map: &mut [u8],
     page: &mut [u8],
 ) -> Passed
-    requires { ⌜ (length (now input) ≤ 65536) × (10263 ≤ length (now page)) ⌝ }
+    requires { ⌜ (length (now input) ≤ 65536) × (most ≤ length (now page)) ⌝ }
 {
     let mut next = reader;
     let mut from = 0;
@@ -96,7 +97,7 @@ fn close(
     map: &mut [u8],
     page: &mut [u8],
 ) -> bool
-    requires { ⌜ 10263 ≤ length (now page) ⌝ }
+    requires { ⌜ most ≤ length (now page) ⌝ }
 {
     let end = session::finish(reader, line, pool, map, page);
     if !hand_on(sink, &page[0..end]) {

@@ -5,12 +5,13 @@ use native.Mathlib.Omega.{arith}
 use borrow.Author.Tests.{lt-leb}
 use borrow.Author.Needs.{needs}
 use lib.ListN.{length}
+use Rattle.session.specs.Bytes.{most}
 use Rattle.session.proofs.Runs.{room-left}
 use Rattle.session.proofs.bytes.has_room.Statement.{statement}
 use Rattle.session.proofs.bytes.has_room.Tie as tie
 
 returns : tie.Need-returns
-returns c = sym (lt-leb (c .before .args .at + 10263) (length (c .before .args .out .now)) (omega arith))
+returns c = sym (lt-leb (c .before .args .at + most) (length (c .before .args .out .now)) (omega arith))
 
 sub-result : tie.Need-sub-result
 sub-result c = search needs
