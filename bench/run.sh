@@ -29,7 +29,10 @@ if ! has_header Judy.h || ! has_header lmdb.h; then
     fi
 fi
 
-[ -f "$lib/libwort.a" ] || fail "libwort.a is not in $lib; build it with: rt staticlib wort"
+if [ ! -f "$lib/libwort.a" ]; then
+    (cd "$root" && tools/pinned.sh && rt staticlib wort >/dev/null) || fail "libwort.a could not be built: see 'rt staticlib wort'."
+fi
+[ -f "$lib/libwort.a" ] || fail "libwort.a is not in $lib."
 
 mkdir -p "$work" "$docs"
 for call in format open lookup list put delete plan_put plan_delete plan_open step finish; do
