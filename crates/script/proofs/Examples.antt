@@ -1,4 +1,4 @@
--- Lines and their commands, and answers and their texts, by computation: those of document 01's example, and lines that are wrong each in its own way.
+-- Lines and their commands, by computation: those of document 01's example, and lines that are wrong each in its own way.
 -- Assumes nothing.
 use mathlib.Core.Path.{_≡_, refl}
 use mathlib.Core.List.{List, [], _∷_, map}
@@ -7,16 +7,13 @@ use Prim.Native.Nat.{ℕ}
 use Prim.Native.String.{String, [] as []ˢ, _∷_ as _∷ˢ_}
 use lib.ListN.{replicate}
 use Rattle.script.specs.Bytes.{letter-L}
-use Rattle.script.specs.Numbers.{valueOf, withDigit, numberFrom, keyOf, numberOf, glyphOf, lastDigits, placesIn}
+use Rattle.script.specs.Numbers.{valueOf, withDigit, numberFrom, keyOf, numberOf}
 use Rattle.script.specs.Lines.{keyAndValueOf, taggedOf, commandOf}
-use Rattle.script.specs.Answers.{fieldsOf, textOf}
 use Rattle.script.specs.declared.lines.Command.{Command}
 use Rattle.script.specs.declared.lines.Command.the-variants.{Put, Delete, Get, Listing, Cut, Wrong}
-use Rattle.script.specs.declared.answers.Answer.{Answer}
-use Rattle.script.specs.declared.answers.Answer.the-variants as print
 
 -- the bytes of a text in ASCII
-abbrev bytes : String → List ℕ
+abbrev pub bytes : String → List ℕ
 bytes []ˢ = []
 bytes (c ∷ˢ text) = code c ∷ bytes text
 
@@ -78,29 +75,3 @@ wrong-lines = refl
 overlong-line : commandOf (replicate 64 letter-L) ≡ Wrong
 unfolding commandOf
 overlong-line = refl
-
-texts : List Answer → List (List ℕ)
-texts answers = map textOf answers
-
-printed : texts (
-    print.Put 0 20
-    ∷ print.Delete 3 0
-    ∷ print.Get 0 3 1
-    ∷ print.Entry 0x20f 3
-    ∷ print.End 3
-    ∷ print.Cut 0 20 3 1
-    ∷ print.Wrong 18446744073709551615
-    ∷ []
-    )
-    ≡ map bytes (
-    "P\t0\t20\n"
-    ∷ "D\t3\t0\n"
-    ∷ "G\t0\t3\t1\n"
-    ∷ "L\t000000000000020f\t3\n"
-    ∷ "E\t3\n"
-    ∷ "C\t0\t20\t3\t1\n"
-    ∷ "?\t18446744073709551615\n"
-    ∷ []
-    )
-unfolding texts textOf fieldsOf lastDigits placesIn glyphOf
-printed = refl

@@ -1,4 +1,3 @@
 pub mod Numbers
 pub mod Commands
-pub mod Texts
 pub mod Examples

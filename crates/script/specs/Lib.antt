@@ -3,4 +3,3 @@ pub mod Numbers
 pub mod Lines
 pub mod Turns
 pub mod Input
-pub mod Answers

@@ -1,8 +1,8 @@
--- Numbers as digits of a base: read from a field, and printed.
+-- Numbers as digits of a base, read from a field.
 -- Assumes nothing.
 use mathlib.Core.Bool.{Bool, true, false}
-use mathlib.Core.List.{List, [], _∷_, _++_}
-use Prim.Native.Nat.{ℕ, zero, suc, _+_, _-_, _*_, _/_, _%_}
+use mathlib.Core.List.{List, [], _∷_}
+use Prim.Native.Nat.{ℕ, _+_, _-_, _*_}
 use lib.Dec.{eqb, leb, ltb}
 use lib.ListN.{length}
 use Rattle.digits.specs.Choice.{pick}
@@ -21,10 +21,6 @@ valueOf b =
     (pick (ltb b (nought + 10)) (b - nought)
     (pick (ltb b letter-a) 16
     (pick (ltb b (letter-a + 6)) (b - letter-a + 10) 16)))
-
--- the byte that a digit is printed as
-unfoldable pub glyphOf : ℕ → ℕ
-glyphOf d = pick (ltb d 10) (nought + d) (letter-a + (d - 10))
 
 -- a number with one digit more, where the byte is a digit of the base and the number is not too large
 unfoldable pub withDigit : ℕ → ℕ → ℕ → Number
@@ -52,21 +48,3 @@ illBegun (b ∷ c ∷ s) = eqb b nought
 -- "numbers decimal, no leading zeros"
 unfoldable pub numberOf : List ℕ → Number
 numberOf field = pick (illBegun field) Not (numberFrom 10 0 field)
-
--- the last k digits of a number, the highest first
-unfoldable pub lastDigits : ℕ → ℕ → ℕ → List ℕ
-lastDigits base zero x = []
-lastDigits base (suc k) x = lastDigits base k (x / base) ++ (glyphOf (x % base) ∷ [])
-
--- how many decimal digits a number has, n at most
-unfoldable pub placesIn : ℕ → ℕ → ℕ
-placesIn zero x = zero
-placesIn (suc n) x = pick (ltb x 10) 1 (placesIn n (x / 10) + 1)
-
--- a key's sixteen digits
-abbrev pub hexOf : ℕ → List ℕ
-hexOf x = lastDigits 16 16 x
-
--- a number's digits, of which there are twenty at most
-abbrev pub decimalOf : ℕ → List ℕ
-decimalOf x = lastDigits 10 (placesIn 20 x) x

@@ -1,12 +1,8 @@
-// The language of `names`: bytes to lines, a line to a command, a command to a turn, an answer to bytes.
-mod answers;
+// What `names` reads: bytes to lines, a line to a command, a command to a turn.
 mod input;
 mod lines;
 mod turns;
 
-pub use answers::Answer;
-pub use answers::write_answer;
-pub use answers::write_listing;
 pub use input::Reader;
 pub use input::Taken;
 pub use lines::Command;

@@ -5,9 +5,9 @@ use mathlib.Core.List.{List, [], _∷_, _++_}
 use Prim.Native.Nat.{ℕ, zero, suc}
 use lib.ListN.{getD}
 use Rattle.digits.specs.Loops.{upto}
-use Rattle.script.specs.Answers.{Page, textOf, written, entriesOf}
-use Rattle.script.specs.declared.answers.Answer.{Answer}
-use Rattle.script.specs.declared.answers.Answer.the-variants.{Entry, End}
+use Rattle.answers.specs.Answers.{Page, textOf, written, entriesOf}
+use Rattle.answers.specs.declared.Answer.{Answer}
+use Rattle.answers.specs.declared.Answer.the-variants.{Entry, End}
 use Rattle.session.specs.Turns.{entries, printed}
 
 pub printed-append : (answers more : List Answer) (p : Page) → printed (answers ++ more) p ≡ printed more (printed answers p)

@@ -10,8 +10,8 @@ use borrow.Author.Tests.{le-ltb, leb-true, le-leb}
 use lib.ListN.{length, take, drop, length-append, length-drop}
 use lib.Seq.{length-take-le, take-append-seam}
 use Rattle.digits.specs.Choice.{pick}
-use Rattle.script.specs.Answers.{textOf, Page, page, written}
-use Rattle.script.specs.declared.answers.Answer.{Answer}
+use Rattle.answers.specs.Answers.{textOf, Page, page, written}
+use Rattle.answers.specs.declared.Answer.{Answer}
 use Rattle.session.specs.Turns.{printed, Acted}
 use Rattle.session.specs.Bytes.{Session, taken, afterByte, saidAt, lastTurn, Stream, onByte, onEnd, roomy, Going, going, runOf, most}
 use Rattle.session.specs.Outputs.{afterBytes, saidBy, saidLast, textsOf}

@@ -7,13 +7,13 @@ use native.Mathlib.Omega.{arith}
 use lib.ListN.{length, getD, replicate, length-append, length-replicate}
 use Rattle.reading.proofs.Answers.{Lists, size, buffers, damage, done, list-answers}
 use Rattle.reading.specs.Listings.{Shown, listOf}
-use Rattle.script.specs.Numbers.{glyphOf, lastDigits, placesIn, decimalOf, hexOf}
-use Rattle.script.specs.Answers.{fieldsOf, lineEnd, textOf}
-use Rattle.script.specs.declared.answers.Answer.{Answer}
-use Rattle.script.specs.declared.answers.Answer.the-variants as print
 use Rattle.script.specs.declared.turns.Turn.{Turn}
 use Rattle.script.specs.declared.turns.Turn.the-variants.{Put, Delete, Get, Listing, CutPut, CutDelete, Nothing, Wrong}
-use Rattle.script.proofs.Texts.{places-le}
+use Rattle.answers.specs.Numbers.{glyphOf, lastDigits, placesIn, decimalOf, hexOf}
+use Rattle.answers.specs.Answers.{fieldsOf, lineEnd, textOf}
+use Rattle.answers.specs.declared.Answer.{Answer}
+use Rattle.answers.specs.declared.Answer.the-variants as print
+use Rattle.answers.proofs.Texts.{places-le}
 use Rattle.session.specs.Turns.{Memory, entries, answersOf}
 use Rattle.session.specs.Bytes.{most}
 use Rattle.session.specs.Outputs.{textsOf}

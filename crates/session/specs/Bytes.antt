@@ -6,11 +6,11 @@ use Prim.Native.Nat.{ℕ, _+_}
 use lib.Dec.{leb}
 use lib.ListN.{length}
 use Rattle.digits.specs.Choice.{pick}
-use Rattle.script.specs.Answers.{Page}
 use Rattle.script.specs.Input.{Taking, takenOf, endOf}
-use Rattle.script.specs.declared.answers.Answer.{Answer}
 use Rattle.script.specs.declared.input.Reader.{Reader}
 use Rattle.script.specs.declared.turns.Turn.{Turn}
+use Rattle.answers.specs.Answers.{Page}
+use Rattle.answers.specs.declared.Answer.{Answer}
 use Rattle.session.specs.Turns.{Memory, memory, leaves, answersOf, printed, Acted, turned}
 
 -- all that a session holds: the reader, the line that is being gathered, and what the turns act on

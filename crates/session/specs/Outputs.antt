@@ -4,9 +4,9 @@ use mathlib.Core.List.{List, [], _∷_, _++_}
 use Prim.Native.Nat.{ℕ}
 use lib.ListN.{replicate}
 use Rattle.writing.specs.Calls.{Formatted, formatOf}
-use Rattle.script.specs.Answers.{textOf}
 use Rattle.script.specs.Input.{begun}
-use Rattle.script.specs.declared.answers.Answer.{Answer}
+use Rattle.answers.specs.Answers.{textOf}
+use Rattle.answers.specs.declared.Answer.{Answer}
 use Rattle.session.specs.Turns.{memory, answersOf}
 use Rattle.session.specs.Bytes.{Session, afterByte, saidAt, lastTurn}
 

@@ -14,11 +14,11 @@ use Rattle.writing.specs.Calls.{putOf, deleteOf}
 use Rattle.writing.specs.Calls as call
 use Rattle.opening.specs.Openings.{openOf}
 use Rattle.opening.specs.Openings as mend
-use Rattle.script.specs.Answers.{Page, textOf, written}
-use Rattle.script.specs.declared.answers.Answer.{Answer}
-use Rattle.script.specs.declared.answers.Answer.the-variants as print
 use Rattle.script.specs.declared.turns.Turn.{Turn}
 use Rattle.script.specs.declared.turns.Turn.the-variants.{Put, Delete, Get, Listing, CutPut, CutDelete, Nothing, Wrong}
+use Rattle.answers.specs.Answers.{Page, textOf, written}
+use Rattle.answers.specs.declared.Answer.{Answer}
+use Rattle.answers.specs.declared.Answer.the-variants as print
 
 -- what the turns act on
 pub record Memory : Type 0 where

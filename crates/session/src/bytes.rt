@@ -1,6 +1,6 @@
 // The input of a session, byte by byte, and the page that its answers go onto.
 ghost use mathlib.Core.Path.{_≡_};
-ghost use Rattle.script.specs.Answers.{page};
+ghost use Rattle.answers.specs.Answers.{page};
 ghost use Rattle.session.specs.Turns.{acted};
 ghost use Rattle.session.specs.Bytes.{stream, onByte, onEnd, roomy, going, runOf};
 use crate::turns;

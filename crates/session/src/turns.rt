@@ -4,11 +4,11 @@ ghost use mathlib.Core.List.{[], _∷_};
 ghost use lib.ListN.{replicate};
 ghost use Rattle.reading.specs.Lookups.{told, lookupOf};
 ghost use Rattle.reading.specs.Listings.{listOf};
-ghost use Rattle.script.specs.Answers.{page};
+ghost use Rattle.answers.specs.Answers.{page};
 ghost use Rattle.session.specs.Turns.{acted, memory, getAnswer, listAnswers, printed, cutTurn, turned};
+use answers::Answer;
 use plan::Planned;
 use reading::Found;
-use script::Answer;
 use script::Turn;
 
 // Entries of a listing, at most.
@@ -19,7 +19,7 @@ fn put(pool: &mut [u64], map: &mut [u8], out: &mut [u8], at: usize, key: u64, va
     ensures { λ r. ⌜ acted (now (pool .exit)) (now (map .exit)) (page (now (out .exit)) r) ≡ turned (Turn.Put key value) (memory (now (pool .entry)) (now (map .entry))) (page (now (out .entry)) at) ⌝ }
 {
     let done = writing::put(pool, map, key, value);
-    script::write_answer(out, at, Answer::Put(done.number, done.stores))
+    answers::write_answer(out, at, Answer::Put(done.number, done.stores))
 }
 
 // A delete, whole.
@@ -27,7 +27,7 @@ fn delete(pool: &mut [u64], map: &mut [u8], out: &mut [u8], at: usize, key: u64)
     ensures { λ r. ⌜ acted (now (pool .exit)) (now (map .exit)) (page (now (out .exit)) r) ≡ turned (Turn.Delete key) (memory (now (pool .entry)) (now (map .entry))) (page (now (out .entry)) at) ⌝ }
 {
     let done = writing::delete(pool, map, key);
-    script::write_answer(out, at, Answer::Delete(done.number, done.stores))
+    answers::write_answer(out, at, Answer::Delete(done.number, done.stores))
 }
 
 // A look-up's answer, in its numbers.
@@ -47,7 +47,7 @@ fn get(pool: &[u64], out: &mut [u8], at: usize, key: u64) -> usize
     ensures { λ r. ⌜ page (now (out .exit)) r ≡ printed (getAnswer (lookupOf (now (pool .entry)) key) ∷ []) (page (now (out .entry)) at) ⌝ }
 {
     let answer = found(reading::lookup(pool, key));
-    script::write_answer(out, at, answer)
+    answers::write_answer(out, at, answer)
 }
 
 // A listing of the whole pool.
@@ -58,7 +58,7 @@ fn list(pool: &[u64], out: &mut [u8], at: usize) -> usize
     let mut values = [0u64; ENTRIES];
     let listed = reading::list(pool, 0, &mut keys, &mut values);
     let count = listed.count;
-    script::write_listing(out, at, &keys, &values, count)
+    answers::write_listing(out, at, &keys, &values, count)
 }
 
 // The first stores of a plan, at most so many; then the map is lost, and the pool opened.
@@ -75,7 +75,7 @@ fn cut(
     let number = planned.number;
     let made = plan::run(pool, planned.plan, stores);
     let opened = opening::open(pool, map);
-    script::write_answer(
+    answers::write_answer(
         out,
         at,
         Answer::Cut(number, made, opened.keys, opened.headers),
@@ -100,6 +100,6 @@ pub fn perform(turn: Turn, pool: &mut [u64], map: &mut [u8], out: &mut [u8], at:
             cut(pool, map, out, at, planned, stores)
         }
         Turn::Nothing => at,
-        Turn::Wrong(line) => script::write_answer(out, at, Answer::Wrong(line)),
+        Turn::Wrong(line) => answers::write_answer(out, at, Answer::Wrong(line)),
     }
 }

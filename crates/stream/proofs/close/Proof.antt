@@ -1,6 +1,6 @@
 -- `close` hands on what the end of the input prints, which stays on the page (session's `end-comes`). Assumes nothing.
 use native.Mathlib.Omega.{arith}
-use Rattle.script.specs.Answers.{page}
+use Rattle.answers.specs.Answers.{page}
 use Rattle.session.specs.Bytes.{stream}
 use Rattle.session.proofs.Prints.{end-comes}
 use borrow.Author.Needs.{needs}

@@ -4,7 +4,7 @@ use Prim.Native.Nat.{_-_, _≤_}
 use native.Mathlib.Omega.{arith}
 use borrow.Author.Needs.{needs}
 use lib.ListN.{length}
-use Rattle.script.specs.Answers.{page}
+use Rattle.answers.specs.Answers.{page}
 use Rattle.session.specs.Bytes.{stream}
 use Rattle.session.proofs.Prints.{run-comes}
 use Rattle.stream.proofs.Parts.{part-length}

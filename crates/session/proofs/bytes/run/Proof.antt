@@ -4,7 +4,7 @@ use Prim.Native.Nat.{_-_}
 use native.Mathlib.Omega.{arith}
 use borrow.Author.Needs.{needs}
 use lib.ListN.{length}
-use Rattle.script.specs.Answers.{page}
+use Rattle.answers.specs.Answers.{page}
 use Rattle.session.specs.Bytes.{stream, runOf}
 use Rattle.session.proofs.Runs.{rest, run-on, run-ended, run-full, run-begun}
 use Rattle.session.proofs.bytes.run.Statement.{statement}
