@@ -29,8 +29,8 @@ use Rattle.writing.specs.Deletes.{deletePlan}
 use Rattle.writing.specs.Calls.{Left, left, done, Formatted, formatted, mappedOf, putOf, deleteOf, formatOf}
 use Rattle.writing.proofs.Fits.{put-number, put-refusal, put-few, put-inside, delete-number, delete-refusal, delete-few, delete-inside}
 use Rattle.writing.proofs.Wholes.{put-whole-number, put-refused, put-lengths, deleteMapped, delete-whole-number, delete-refused, delete-lengths, Formats, format-formats}
+use Rattle.survey.specs.Surveys.{surveyOf}
 use Rattle.opening.specs.Openings.{mendFirst, openIn, openPlan, openOf}
-use Rattle.opening.specs.Surveys.{surveyOf}
 use Rattle.opening.specs.Openings as opening
 use Rattle.opening.proofs.Answers.{plan-modest, open-number, open-size, open-damage}
 use Rattle.demands.specs.Demand1.{OneOf, Inside, Plans, Whole, Demand1}

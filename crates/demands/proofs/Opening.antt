@@ -22,14 +22,13 @@ use Rattle.reading.specs.Listings.{listOf}
 use Rattle.reading.specs.Rows.{Finds, shownRows, upFrom}
 use Rattle.reading.proofs.HeldLookup.{lookup-held}
 use Rattle.reading.proofs.HeldListing.{list-held}
-use Rattle.opening.specs.Soundness.{Sound, Straight}
-use Rattle.opening.specs.Surveys.{surveyOf}
+use Rattle.survey.specs.Soundness.{Sound, Straight}
+use Rattle.survey.proofs.SoundTree.{sound-held}
+use Rattle.survey.proofs.SoundHeld.{held-is-sound, sound-capacity, straight-if, sound-holds}
 use Rattle.opening.specs.Openings.{Left, reached, openPlan, openOf}
 use Rattle.opening.proofs.Answers.{Leaves, size, damage, done, open-leaves}
-use Rattle.opening.proofs.SoundTree.{sound-held}
 use Rattle.opening.proofs.HeldMends.{M}
 use Rattle.opening.proofs.HeldOpens.{Pool, capacity-is, end, all-mended, none-left, reached-marked, open-is}
-use Rattle.opening.proofs.SoundHeld.{held-is-sound, sound-capacity, straight-if, sound-holds}
 use Rattle.demands.specs.Tables.{Table, Reads, Exact}
 use Rattle.demands.specs.Opening.{Restored, Opens}
 use Rattle.demands.proofs.Readings.{marked-exact, pool-is, finds-one}

@@ -24,10 +24,10 @@ use Rattle.reading.specs.Rows.{Word, Words, Finds}
 use Rattle.reading.proofs.HeldLookup.{lookup-held}
 use Rattle.reading.proofs.HeldListing.{list-held, rows-held, names-held}
 use Rattle.writing.proofs.Wholes.{size-same}
-use Rattle.opening.specs.Soundness.{Sound, InUse}
+use Rattle.survey.specs.Soundness.{Sound}
+use Rattle.survey.proofs.HeldReached.{in-use, reached-in-use}
+use Rattle.survey.proofs.SoundHeld.{sound-capacity, held-is-sound, sound-holds}
 use Rattle.opening.proofs.HeldOpens.{Pool}
-use Rattle.opening.proofs.HeldReached.{in-use, reached-in-use}
-use Rattle.opening.proofs.SoundHeld.{sound-capacity, held-is-sound, sound-holds}
 use Rattle.demands.specs.Tables.{Table, Rows, Names, Reads, Exact}
 use Rattle.demands.specs.Demand2.{Reading}
 use Rattle.demands.proofs.States.{State, fits, tree-names}

@@ -12,7 +12,7 @@ use Rattle.plan.specs.Plans.{made}
 use Rattle.writing.specs.Puts.{putPlan}
 use Rattle.writing.specs.Deletes.{deletePlan}
 use Rattle.writing.specs.Calls.{Left, putOf, deleteOf}
-use Rattle.opening.specs.Soundness.{Sound}
+use Rattle.survey.specs.Soundness.{Sound}
 use Rattle.reading.specs.Rows.{Word, Words}
 use Rattle.demands.specs.Tables.{Table, given, without, Names, Reads, Exact}
 

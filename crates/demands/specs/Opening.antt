@@ -6,7 +6,7 @@ use mathlib.Core.List.{List, []}
 use Prim.Native.Nat.{ℕ}
 use lib.ListN.{length}
 use Rattle.pool.specs.Sizes.{bytesOf}
-use Rattle.opening.specs.Soundness.{Sound, Straight}
+use Rattle.survey.specs.Soundness.{Sound, Straight}
 use Rattle.opening.specs.Openings.{openPlan, openOf}
 use Rattle.demands.specs.Tables.{Table, Reads, Exact}
 

@@ -13,7 +13,7 @@ use Rattle.pool.specs.Places.{wordAt}
 use Rattle.reading.specs.Lookups.{lookupOf}
 use Rattle.reading.specs.Listings.{listOf}
 use Rattle.reading.specs.Rows.{Finds, upFrom, shownRows, Word}
-use Rattle.opening.specs.Soundness.{InUse}
+use Rattle.survey.specs.Soundness.{InUse}
 
 -- "a plain table from name number to file number": the file number of each name that it holds
 abbrev pub Table : Type 0

@@ -26,10 +26,10 @@ use Rattle.plan.specs.Plans.{Decided, plannedOf}
 use Rattle.plan.specs.declared.Planned.{Planned}
 use Rattle.plan.specs.declared.Effect.the-variants.{Nothing}
 use Rattle.plan.proofs.Laws.{length-made}
+use Rattle.survey.specs.Surveys.{surveyOf}
+use Rattle.survey.proofs.Loops.{pick-both}
 use Rattle.opening.specs.declared.mending.Opened.{Opened}
-use Rattle.opening.specs.Surveys.{surveyOf}
 use Rattle.opening.specs.Openings.{depthMarked, stale, mendWith, mendAt, mendOf, firstStale, mendFirst, openIn, openPlan, Mended, mendNode, mended, reached, opened, Left, left, restored, leftIn, openOf}
-use Rattle.opening.proofs.Loops.{pick-both}
 use Rattle.opening.proofs.Openings.{at-most-one-store, bytes-flat, few-keys}
 use Rattle.opening.proofs.Marks.{survey-length}
 

@@ -12,7 +12,7 @@ use Rattle.pool.specs.Refs.{refOf}
 use Rattle.walk.specs.Walks.{headOf, lowestFrom}
 use Rattle.plan.specs.Plans.{made, decided, refused}
 use Rattle.plan.specs.declared.Effect.the-variants.{Nothing}
-use Rattle.opening.specs.Surveys.{leafMet, joinOf, headJudged, surveyFrom, surveyOf}
+use Rattle.survey.specs.Surveys.{leafMet, joinOf, headJudged, surveyFrom, surveyOf}
 use Rattle.opening.specs.Openings.{openPlan, opened, left, openOf}
 
 -- N = 4. Keys 0x200, 0x202 and 0x20f are put, with node 0; 0x222 is put but for its last store: leaf 3 and node 1 are written, and node 0's

@@ -33,9 +33,9 @@ use Rattle.walk.specs.declared.Lowest.the-variants.{Key}
 use Rattle.held.specs.Ways.{dig, mem}
 use Rattle.held.proofs.Heads.{Headed, held-head, held-node}
 use Rattle.held.proofs.Lowest.{low-held}
+use Rattle.survey.proofs.TreeMarks.{marksOf, marks-off, marks-node}
+use Rattle.survey.proofs.HeldSurvey.{zeros}
 use Rattle.opening.specs.Openings.{depthMarked, stale, mendOf}
-use Rattle.opening.proofs.TreeMarks.{marksOf, marks-off, marks-node}
-use Rattle.opening.proofs.HeldSurvey.{zeros}
 
 -- ---- where a reached slot stands
 pub SlotIs : ℕ → Tree ℕ → Type 0

@@ -27,10 +27,10 @@ use Rattle.plan.specs.Plans.{made, decided}
 use Rattle.plan.specs.declared.Effect.the-variants.{Nothing}
 use Rattle.held.specs.Ways.{mem}
 use Rattle.held.specs.Maps.{Marked}
+use Rattle.survey.proofs.TreeMarks.{marks-off, marks-on, marks-length}
+use Rattle.survey.proofs.HeldSurvey.{held-sound, zeros}
 use Rattle.opening.specs.Openings.{depthMarked, stale, mendOf, firstStale, mendFirst, openPlan, openSteps}
 use Rattle.opening.specs.Openings.{Mended, mendNode, mended, reached, keysOf, opened, openOf}
-use Rattle.opening.proofs.TreeMarks.{marks-off, marks-on, marks-length}
-use Rattle.opening.proofs.HeldSurvey.{held-sound, zeros}
 use Rattle.opening.proofs.HeldMends.{M, NodeAt, scan-first, scan-nowhere, marked-stands, header, mend-is, mend-held, mended-depth, fresh-depth, depth-is}
 
 -- steps of opening are made one after the other

@@ -1,15 +1,6 @@
-pub mod Shifts
-pub mod Loops
-pub mod Surveys
-pub mod Turns
 pub mod Openings
 pub mod Marks
 pub mod Answers
 pub mod Examples
-pub mod SoundTree
-pub mod TreeMarks
-pub mod HeldSurvey
 pub mod HeldMends
 pub mod HeldOpens
-pub mod HeldReached
-pub mod SoundHeld

@@ -23,10 +23,10 @@ use Rattle.walk.specs.declared.Head.{Head}
 use Rattle.walk.specs.declared.Head.the-variants.{Branch, Wrong}
 use Rattle.walk.proofs.Heads.{between}
 use Rattle.walk.proofs.Loops.{tally-le}
-use Rattle.opening.specs.Surveys.{Survey, survey, census, leafMet, Gathered, gathered, gather, kidOf, closed, nodeMet, refMet, surveyFrom, surveyOf}
+use Rattle.survey.specs.Surveys.{Survey, survey, census, leafMet, Gathered, gathered, gather, kidOf, closed, nodeMet, refMet, surveyFrom, surveyOf}
+use Rattle.survey.proofs.Loops.{pick-both, upto-keeps, tally-flip, tally-same}
+use Rattle.survey.proofs.Surveys.{nodeFrom, survey-turn}
 use Rattle.opening.specs.Openings.{keysOf}
-use Rattle.opening.proofs.Loops.{pick-both, upto-keeps, tally-flip, tally-same}
-use Rattle.opening.proofs.Surveys.{nodeFrom, survey-turn}
 
 -- from the marks m to m′ by marking leaves and nodes, each of which was not marked before
 pub data Marking (n : ℕ) : List ℕ → List ℕ → Type 0 where

@@ -30,9 +30,9 @@ use Rattle.plan.specs.Plans.{made, planOf, plannedOf, refused, After, after, st
 use Rattle.plan.specs.declared.Plan.{Plan}
 use Rattle.plan.specs.declared.Effect.the-variants.{Nothing}
 use Rattle.plan.proofs.Laws.{step-made}
-use Rattle.opening.specs.Surveys.{surveyOf, Found}
+use Rattle.survey.specs.Surveys.{surveyOf, Found}
+use Rattle.survey.proofs.Loops.{pick-both, upto-turn, tally-same}
 use Rattle.opening.specs.Openings.{depthMarked, stale, mendWith, mendAt, mendOf, firstStale, mendFirst, openJudged, openPlan, Mended, mends, mendNode, mended, reached, keysOf, opened, Left, left, restored, leftJudged, openOf}
-use Rattle.opening.proofs.Loops.{pick-both, upto-turn, tally-same}
 
 -- ---- the map's bytes
 -- the first i of a list changed by f

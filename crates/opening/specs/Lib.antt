@@ -1,3 +1,1 @@
-pub mod Surveys
 pub mod Openings
-pub mod Soundness

@@ -1,6 +1,6 @@
 -- Opening: judge the whole pool, mend the stale headers, mark what is reached.
 -- Assumes nothing.
-use mathlib.Core.Bool.{Bool, true, false, not}
+use mathlib.Core.Bool.{Bool, false, not}
 use mathlib.Core.List.{List, [], _∷_, map}
 use Prim.Native.Nat.{ℕ, zero, suc, _+_, _-_}
 use lib.Dec.{eqb, ltb}
@@ -20,7 +20,7 @@ use Rattle.walk.specs.declared.Lowest.{Lowest}
 use Rattle.walk.specs.declared.Lowest.the-variants.{Key, NoKey}
 use Rattle.plan.specs.Plans.{made, Decided, decided, refused}
 use Rattle.plan.specs.declared.Effect.the-variants.{Nothing}
-use Rattle.opening.specs.Surveys.{Survey, surveyOf}
+use Rattle.survey.specs.Surveys.{Survey, surveyOf}
 use Rattle.opening.specs.declared.mending.Opened.{Opened}
 use Rattle.opening.specs.declared.mending.Fresh.{Fresh}
 use Rattle.opening.specs.declared.mending.Fresh.the-variants.{Header, NoHeader}

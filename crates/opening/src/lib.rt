@@ -1,7 +1,5 @@
 // Opening a pool: judge the whole of it, mend the stale headers, mark what is reached.
 mod mending;
-mod packing;
-mod surveying;
 
 pub use mending::Opened;
 pub use mending::open;

@@ -3,13 +3,10 @@ ghost use mathlib.Core.Path.{_≡_};
 ghost use mathlib.Core.List.{[], _∷_, map as mapped};
 ghost use Prim.Native.Nat.{ℕ, _+_, _-_, _*_, _<_, _≤_};
 ghost use lib.ListN.{length, getD, replicate};
-ghost use Rattle.tree.specs.Stores.{Store};
 ghost use Rattle.pool.specs.Sizes.{Sized, bytesOf};
 ghost use Rattle.plan.specs.Plans.{planOf, plannedOf};
-ghost use Rattle.opening.specs.Surveys.{surveyOf};
+ghost use Rattle.survey.specs.Surveys.{surveyOf};
 ghost use Rattle.opening.specs.Openings.{depthMarked, stale, mendOf, freshStores, mendFirst, openJudged, openPlan, mends, mendNode, mended, reached, keysOf, opened, left, restored, leftJudged, openOf};
-use crate::packing::pack;
-use crate::surveying::survey;
 use digits::Header;
 use plan::Effect;
 use plan::Plan;
@@ -63,7 +60,7 @@ fn fresh_header(pool: &[u64], n: usize, w: usize, j: usize) -> Fresh
     let Lowest::Key(near) = walk::lowest_leaf(pool, n, w, pool::node_ref(j)) else {
         return Fresh::NoHeader;
     };
-    Fresh::Header(pack(w, b - w, near))
+    Fresh::Header(survey::pack(w, b - w, near))
 }
 
 // A plan of one store.
@@ -113,7 +110,7 @@ fn plan_with(pool: &[u64], n: usize, map: &mut [u8]) -> Planned
     requires { ⌜ Sized (now pool) n × (now map ≡ replicate (bytesOf n) 0) ⌝ }
     ensures { λ r. ⌜ r ≡ plannedOf (openJudged (now (pool .entry)) n (surveyOf (now (pool .entry)) n)) ⌝ }
 {
-    if !survey(pool, n, map) {
+    if !survey::survey(pool, n, map) {
         return Planned::refused(2);
     }
     Planned {
@@ -245,7 +242,7 @@ fn open_sized(pool: &mut [u64], n: usize, map: &mut [u8]) -> Opened
     ensures { λ r. ⌜ left r (now (pool .exit)) (now (map .exit)) ≡ leftJudged (now (pool .entry)) (now (map .entry)) n (surveyOf (now (pool .entry)) n) ⌝ }
 {
     clear(map);
-    if !survey(pool, n, map) {
+    if !survey::survey(pool, n, map) {
         clear(map);
         return refused(2);
     }

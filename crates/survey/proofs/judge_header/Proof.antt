@@ -1,8 +1,8 @@
 -- `judge_header` compares the word with the header that a key below the node has. Assumes nothing.
 use borrow.Author.Needs.{needs}
-use Rattle.opening.proofs.Turns.{header-judged}
-use Rattle.opening.proofs.surveying.judge_header.Statement.{statement}
-use Rattle.opening.proofs.surveying.judge_header.Tie as tie
+use Rattle.survey.proofs.Turns.{header-judged}
+use Rattle.survey.proofs.judge_header.Statement.{statement}
+use Rattle.survey.proofs.judge_header.Tie as tie
 
 unpack-requires : tie.Need-unpack-requires
 unpack-requires c κs = search needs

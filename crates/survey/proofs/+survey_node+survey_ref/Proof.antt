@@ -20,23 +20,23 @@ use Rattle.walk.specs.Walks.{isChild}
 use Rattle.walk.proofs.Loops.{tally-le}
 use Rattle.walk.proofs.accept.Kinds as accept-kinds
 use Rattle.walk.proofs.accept.Reads as accept-reads
-use Rattle.opening.proofs.Turns.{Joined, joined-none, joined-empty, joined-child, joined-over, node-wrong, node-again, node-few, node-over, node-judged, header-fits, ref-empty, ref-leaf, ref-node, ref-bad}
-use Rattle.opening.proofs.surveying.damage.Kinds as damage-kinds
-use Rattle.opening.proofs.surveying.meet_leaf.Kinds as meet-leaf-kinds
-use Rattle.opening.proofs.surveying.join.Kinds as join-kinds
-use Rattle.opening.proofs.surveying.judge_header.Kinds as judge-header-kinds
-use Rattle.opening.proofs.surveying.survey_node.Reads as survey-node
-use Rattle.opening.proofs.surveying.survey_node.Kinds as survey-node-kinds
-use Rattle.opening.proofs.surveying.+survey_node+survey_ref.Lts-survey_node as survey-node-lts
-use Rattle.opening.proofs.surveying.survey_ref.Reads as survey-ref
-use Rattle.opening.proofs.surveying.survey_ref.Kinds as survey-ref-kinds
-use Rattle.opening.proofs.surveying.+survey_node+survey_ref.Lts-survey_ref as survey-ref-lts
-use Rattle.opening.proofs.surveying.damage.Reads as damage-reads
-use Rattle.opening.proofs.surveying.join.Reads as join-reads
-use Rattle.opening.proofs.surveying.judge_header.Reads as judge-header-reads
-use Rattle.opening.proofs.surveying.meet_leaf.Reads as meet-leaf-reads
-use Rattle.opening.proofs.surveying.+survey_node+survey_ref.{statement}
-use Rattle.opening.proofs.surveying.+survey_node+survey_ref.Tie.{close}
+use Rattle.survey.proofs.Turns.{Joined, joined-none, joined-empty, joined-child, joined-over, node-wrong, node-again, node-few, node-over, node-judged, header-fits, ref-empty, ref-leaf, ref-node, ref-bad}
+use Rattle.survey.proofs.damage.Kinds as damage-kinds
+use Rattle.survey.proofs.meet_leaf.Kinds as meet-leaf-kinds
+use Rattle.survey.proofs.join.Kinds as join-kinds
+use Rattle.survey.proofs.judge_header.Kinds as judge-header-kinds
+use Rattle.survey.proofs.survey_node.Reads as survey-node
+use Rattle.survey.proofs.survey_node.Kinds as survey-node-kinds
+use Rattle.survey.proofs.+survey_node+survey_ref.Lts-survey_node as survey-node-lts
+use Rattle.survey.proofs.survey_ref.Reads as survey-ref
+use Rattle.survey.proofs.survey_ref.Kinds as survey-ref-kinds
+use Rattle.survey.proofs.+survey_node+survey_ref.Lts-survey_ref as survey-ref-lts
+use Rattle.survey.proofs.damage.Reads as damage-reads
+use Rattle.survey.proofs.join.Reads as join-reads
+use Rattle.survey.proofs.judge_header.Reads as judge-header-reads
+use Rattle.survey.proofs.meet_leaf.Reads as meet-leaf-reads
+use Rattle.survey.proofs.+survey_node+survey_ref.{statement}
+use Rattle.survey.proofs.+survey_node+survey_ref.Tie.{close}
 
 abbrev μ-survey-node : Measures 2 survey-node-kinds.ps ℕ
 μ-survey-node κs a = 2 * (16 - a .1 .1 .0)

@@ -16,8 +16,8 @@ use Rattle.walk.specs.Walks.{headOf, Between, childrenOf}
 use Rattle.walk.specs.declared.Head.{Head}
 use Rattle.walk.specs.declared.Head.the-variants.{Branch, Wrong}
 use Rattle.walk.proofs.Heads.{between}
-use Rattle.opening.specs.Surveys.{Survey, survey, spoilt, kidOf, closed, nodeMet, refMet, surveyFrom}
-use Rattle.opening.proofs.Loops.{upto-same}
+use Rattle.survey.specs.Surveys.{Survey, survey, spoilt, kidOf, closed, nodeMet, refMet, surveyFrom}
+use Rattle.survey.proofs.Loops.{upto-same}
 
 module _ (pool : List ℕ) (n : ℕ) where
   -- a node that is met with so many nodes left below the reference to it

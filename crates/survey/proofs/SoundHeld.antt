@@ -25,9 +25,9 @@ use Rattle.walk.specs.Walks.{childrenOf, isChild}
 use Rattle.held.specs.Ways.{dig, mem}
 use Rattle.held.proofs.Heads.{held-zero}
 use Rattle.held.proofs.Lowest.{tally-same}
-use Rattle.opening.specs.Soundness.{at, depth, branch, Reached, root, Below, here, under, child, SoundNode, Sound, Straight}
-use Rattle.opening.proofs.SoundTree.{choose, chosen}
-use Rattle.opening.proofs.HeldReached.{KeyIn, key-agrees, one-place, NodeHeld, below-key, place-holds, place-good, place-means, place-slot, reached-place}
+use Rattle.survey.specs.Soundness.{at, depth, branch, Reached, root, Below, here, under, child, SoundNode, Sound, Straight}
+use Rattle.survey.proofs.SoundTree.{choose, chosen}
+use Rattle.survey.proofs.HeldReached.{KeyIn, key-agrees, one-place, NodeHeld, below-key, place-holds, place-good, place-means, place-slot, reached-place}
 
 -- a sound pool's capacity is the one that it is measured to have
 pub sound-capacity : (pool : List ℕ) (n : ℕ) (s : Sound pool) → capacityOf pool ≡ Capacity n → s .n ≡ n

@@ -36,10 +36,10 @@ use Rattle.walk.specs.declared.Head.the-variants.{Branch, Wrong}
 use Rattle.held.specs.Ways.{dig, mem}
 use Rattle.held.proofs.Heads.{held-zero}
 use Rattle.held.proofs.Lowest.{tally-same}
-use Rattle.opening.specs.declared.surveying.Census.{Census}
-use Rattle.opening.specs.declared.surveying.Gather.{Gather}
-use Rattle.opening.specs.Surveys.{Survey, survey, census, unsound, spoilt, leafMet, joinOf, Gathered, gathered, gather, kidOf}
-use Rattle.opening.specs.Surveys.{headJudged, kidsOf, closed, nodeMet, refMet, surveyFrom, surveyOf}
+use Rattle.survey.specs.declared.Census.{Census}
+use Rattle.survey.specs.declared.Gather.{Gather}
+use Rattle.survey.specs.Surveys.{Survey, survey, census, unsound, spoilt, leafMet, joinOf, Gathered, gathered, gather, kidOf}
+use Rattle.survey.specs.Surveys.{headJudged, kidsOf, closed, nodeMet, refMet, surveyFrom, surveyOf}
 
 unsound-never : {A : Type 0} → _≡_ {A = Bool} false true → A
 unsound-never e = absurd (true-not-false e refl)

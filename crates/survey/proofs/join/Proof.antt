@@ -1,9 +1,9 @@
 -- `join` goes by the definition's tests, in their order. Assumes nothing.
 use mathlib.Core.Path.{_∙_}
 use borrow.Author.Needs.{needs}
-use Rattle.opening.proofs.Turns.{join-damaged, join-turned, join-first, join-more}
-use Rattle.opening.proofs.surveying.join.Statement.{statement}
-use Rattle.opening.proofs.surveying.join.Tie as tie
+use Rattle.survey.proofs.Turns.{join-damaged, join-turned, join-first, join-more}
+use Rattle.survey.proofs.join.Statement.{statement}
+use Rattle.survey.proofs.join.Tie as tie
 
 gathered-requires : tie.Need-gathered-requires
 gathered-requires c κs = search needs

@@ -6,9 +6,12 @@ ghost use lib.ListN.{length, replicate};
 ghost use Rattle.pool.specs.Sizes.{Sized, bytesOf};
 ghost use Rattle.pool.specs.Places.{headerAt};
 ghost use Rattle.walk.specs.Walks.{headOf};
-ghost use Rattle.opening.specs.Surveys.{survey, census, leafMet, gather, joinOf, Accepted, headJudged, nodeMet, surveyFrom, surveyOf, Gives, Found};
-use crate::packing::pack;
+ghost use Rattle.survey.specs.Surveys.{survey, census, leafMet, gather, joinOf, Accepted, headJudged, nodeMet, surveyFrom, surveyOf, Gives, Found};
+
+mod packing;
+
 use digits::Header;
+pub use packing::pack;
 use pool::Ref;
 use walk::Head;
 

@@ -30,12 +30,12 @@ use Rattle.walk.specs.declared.Head.the-variants.{Branch}
 use Rattle.held.specs.Ways.{dig, mem}
 use Rattle.held.proofs.Heads.{Shown, Headed, held-empty, held-leaf, held-head, held-node, held-slot, held-child, held-zero}
 use Rattle.held.proofs.Lowest.{children-held}
-use Rattle.opening.specs.declared.surveying.Census.{Census}
-use Rattle.opening.specs.declared.surveying.Gather.{Gather}
-use Rattle.opening.specs.Surveys.{Survey, survey, census, leafMet, joinOf, Gathered, gathered, gather, kidOf, headJudged, closed}
-use Rattle.opening.specs.Surveys.{nodeMet, refMet, surveyFrom, surveyOf}
-use Rattle.opening.proofs.SoundTree.{meeting, survey-meets}
-use Rattle.opening.proofs.TreeMarks.{marksOf, marks-off, upto-off}
+use Rattle.survey.specs.declared.Census.{Census}
+use Rattle.survey.specs.declared.Gather.{Gather}
+use Rattle.survey.specs.Surveys.{Survey, survey, census, leafMet, joinOf, Gathered, gathered, gather, kidOf, headJudged, closed}
+use Rattle.survey.specs.Surveys.{nodeMet, refMet, surveyFrom, surveyOf}
+use Rattle.survey.proofs.SoundTree.{meeting, survey-meets}
+use Rattle.survey.proofs.TreeMarks.{marksOf, marks-off, upto-off}
 
 -- two keys that agree before b do not differ before b
 agree-diff : (b a k s : ℕ) → b ≤ 16 → Agree dig b (dig s) a → Agree dig b (dig s) k → b ≤ firstDiff a k

@@ -3,7 +3,7 @@
 use mathlib.Core.Path.{_≡_}
 use mathlib.Core.Bool.{Bool, true, false}
 use mathlib.Core.List.{List}
-use Prim.Native.Nat.{ℕ, zero, suc, _+_, _-_, _<_}
+use Prim.Native.Nat.{ℕ, zero, suc, _+_, _<_}
 use lib.Dec.{eqb, leb, ltb}
 use lib.ListN.{getD, set, replicate}
 use Rattle.digits.specs.Choice.{pick}
@@ -18,8 +18,8 @@ use Rattle.pool.specs.declared.Ref.the-variants.{Empty, Leaf, Node, Bad}
 use Rattle.walk.specs.Walks.{headOf, childrenOf}
 use Rattle.walk.specs.declared.Head.{Head}
 use Rattle.walk.specs.declared.Head.the-variants.{Branch, Wrong}
-use Rattle.opening.specs.declared.surveying.Census.{Census}
-use Rattle.opening.specs.declared.surveying.Gather.{Gather}
+use Rattle.survey.specs.declared.Census.{Census}
+use Rattle.survey.specs.declared.Gather.{Gather}
 
 -- the marks, a byte for each slot (0 where it is not reached, 1 for a leaf, 1 + w for a node met at walk depth w), and the census: the last
 -- key met, and whether all is sound so far

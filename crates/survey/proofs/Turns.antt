@@ -21,11 +21,11 @@ use Rattle.walk.specs.Walks.{headOf, isChild, childrenOf}
 use Rattle.walk.specs.declared.Head.{Head}
 use Rattle.walk.specs.declared.Head.the-variants.{Branch, Wrong}
 use Rattle.walk.proofs.Nodes.{counted, uncounted}
-use Rattle.opening.specs.declared.surveying.Census.{Census}
-use Rattle.opening.specs.declared.surveying.Gather.{Gather}
-use Rattle.opening.specs.Surveys.{Survey, survey, census, leafMet, gather, joinOf, Gathered, gathered, kidOf, Accepted, headJudged, nodeMet, surveyFrom, surveyOf, Alike, Gives, Found}
-use Rattle.opening.proofs.Loops.{pick-both, upto-turn, upto-keeps}
-use Rattle.opening.proofs.Surveys.{survey-over, survey-on, node-bound-unseen}
+use Rattle.survey.specs.declared.Census.{Census}
+use Rattle.survey.specs.declared.Gather.{Gather}
+use Rattle.survey.specs.Surveys.{Survey, survey, census, leafMet, gather, joinOf, Gathered, gathered, kidOf, Accepted, headJudged, nodeMet, surveyFrom, surveyOf, Alike, Gives, Found}
+use Rattle.survey.proofs.Loops.{pick-both, upto-turn, upto-keeps}
+use Rattle.survey.proofs.Surveys.{survey-over, survey-on, node-bound-unseen}
 
 -- a census is unsound
 abbrev pub Over : Census → Type 0

@@ -5,10 +5,10 @@ use native.Mathlib.Omega.{arith}
 use borrow.Author.Needs.{needs}
 use lib.ListN.{length, length-replicate}
 use Rattle.pool.specs.Places.{wordAt}
-use Rattle.opening.specs.Surveys.{census}
-use Rattle.opening.proofs.Turns.{ref-leaf, ref-node, ref-bad, found, found-none}
-use Rattle.opening.proofs.surveying.survey.Statement.{statement}
-use Rattle.opening.proofs.surveying.survey.Tie as tie
+use Rattle.survey.specs.Surveys.{census}
+use Rattle.survey.proofs.Turns.{ref-leaf, ref-node, ref-bad, found, found-none}
+use Rattle.survey.proofs.survey.Statement.{statement}
+use Rattle.survey.proofs.survey.Tie as tie
 
 shared-slice-read-reference : tie.Need-shared-slice-read-reference
 shared-slice-read-reference c = search needs

@@ -1,8 +1,8 @@
 -- `pack` is the header word, by shifts. Assumes nothing.
 use borrow.Author.Needs.{needs}
-use Rattle.opening.proofs.Shifts.{packed-at-once}
-use Rattle.opening.proofs.packing.pack.Statement.{statement}
-use Rattle.opening.proofs.packing.pack.Tie as tie
+use Rattle.survey.proofs.Shifts.{packed-at-once}
+use Rattle.survey.proofs.packing.pack.Statement.{statement}
+use Rattle.survey.proofs.packing.pack.Tie as tie
 
 stored-requires : tie.Need-stored-requires
 stored-requires c κs = search needs

@@ -1,9 +1,9 @@
 -- `meet_leaf` marks a leaf that was not met before. Assumes nothing.
 use mathlib.Core.Path.{refl}
 use borrow.Author.Needs.{needs}
-use Rattle.opening.proofs.Turns.{leaf-first, leaf-again}
-use Rattle.opening.proofs.surveying.meet_leaf.Statement.{statement}
-use Rattle.opening.proofs.surveying.meet_leaf.Tie as tie
+use Rattle.survey.proofs.Turns.{leaf-first, leaf-again}
+use Rattle.survey.proofs.meet_leaf.Statement.{statement}
+use Rattle.survey.proofs.meet_leaf.Tie as tie
 
 slice-read-if1 : tie.Need-slice-read-if1
 slice-read-if1 c = search needs

@@ -19,7 +19,7 @@ use Rattle.layout.specs.Layout.{base, Held, refAt}
 use Rattle.layout.proofs.Held.{ref-child, sub-holds}
 use Rattle.held.specs.Ways.{dig, mem}
 use Rattle.held.proofs.Heads.{Headed, held-empty, held-leaf, held-head, held-node, held-slot, held-child}
-use Rattle.opening.specs.Soundness.{slotOf, at, depth, branch, Reached, root, child, Below, here, under, InUse}
+use Rattle.survey.specs.Soundness.{slotOf, at, depth, branch, Reached, root, child, Below, here, under, InUse}
 
 -- ---- keys and slots of a tree
 -- k is the key of one of the tree's leaves

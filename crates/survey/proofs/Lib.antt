@@ -1,0 +1,9 @@
+pub mod Shifts
+pub mod Loops
+pub mod Surveys
+pub mod Turns
+pub mod SoundTree
+pub mod TreeMarks
+pub mod HeldSurvey
+pub mod HeldReached
+pub mod SoundHeld
