@@ -1,27 +1,29 @@
 -- Whole calls: plan, all stores in order, finish; a refusal leaves everything as it was; each promise has one outcome.
 -- Assumes nothing.
 use mathlib.Core.Path.{_≡_, refl, sym, ap, _∙_}
-use mathlib.Core.Logic.{inl, inr}
+use mathlib.Core.Logic.{_⊎_, inl, inr}
 use mathlib.Core.Bool.{Bool, true, false}
 use mathlib.Core.List.{List, [], _∷_}
 use Prim.Native.Nat.{ℕ, _-_, _*_, _≤_, _<_}
 use native.Mathlib.Omega.{arith}
-use borrow.Author.Tests.{eq-eqb, ne-eqb}
+use borrow.Author.Tests.{lt-ltb, le-ltb, eq-eqb, ne-eqb}
 use types.Run.{OneOf}
 use lib.Dec.{eqb, ltb}
 use lib.ListN.{length, set, replicate, length-set, length-replicate}
 use Rattle.digits.specs.Choice.{pick}
-use Rattle.tree.proofs.Basics.{Same?, same, other, same?}
+use lib.Seq.{set-out}
+use Rattle.tree.proofs.Basics.{Same?, same, other, same?, less?}
 use Rattle.tree.proofs.Stores.{Words}
 use Rattle.pool.specs.Sizes.{sizeOf, capacityOf, bytesOf, Sized}
 use Rattle.pool.specs.declared.Size.{Size}
 use Rattle.pool.specs.declared.Size.the-variants.{Holds, Wrong}
 use Rattle.pool.proofs.Sizes.{size-fits}
-use Rattle.plan.specs.Plans.{Decided, plannedOf, after, finishOf, ran, runOf}
+use Rattle.plan.specs.Plans.{Decided, decided, refused, plannedOf, made, After, after, storeOf, finishOf, ran, runOf}
+use Rattle.plan.specs.declared.Effect.{Effect}
 use Rattle.plan.specs.declared.Planned.{Planned}
 use Rattle.plan.proofs.Laws.{run-whole, length-made, length-finish}
 use Rattle.writing.specs.declared.calls.Done.{Done}
-use Rattle.writing.specs.Puts.{putPlan}
+use Rattle.writing.specs.Puts.{store, putPlan}
 use Rattle.writing.specs.Deletes.{deletePlan}
 use Rattle.writing.specs.Calls.{Left, done, left, wholeOf, carriedOf, putOf, mappedOf, deleteOf, Formatted, formatted, formatIn, formatOf}
 use Rattle.writing.proofs.Fits.{put-inside, put-few, delete-inside, delete-few}
@@ -38,6 +40,33 @@ module _ (p : Planned) (pool map : List ℕ) where
 -- stores inside the pool, at most 21: all are made, in their order
 pub carried-whole : (d : Decided) (pool map : List ℕ) → Words (λ w. w < length pool) (d .stores) → length (d .stores) ≤ 21 → carriedOf (plannedOf d) pool map ≡ wholeOf d pool map
 carried-whole d pool map inside few = rw (run-whole (d .stores) (d .effect) few pool inside (length (d .stores)) (omega arith))
+
+-- ---- stores that are made with no plan
+stored : (l : List ℕ) (i v : ℕ) {k : ℕ} {l′ : List ℕ} → after k l′ ≡ storeOf i v l → l′ ≡ set l i v
+stored l i v e = ap (λ (a : After). a .left) e ∙ go (less? i (length l))
+  where
+    go : (i < length l) ⊎ (length l ≤ i) → storeOf i v l .left ≡ set l i v
+    go (inl h) = rw (lt-ltb i (length l) h)
+    go (inr h) = rw (le-ltb i (length l) h) (sym (set-out l i v h))
+
+module _ (pool map : List ℕ) where
+  pub whole-none : (k : ℕ) → left (done k 0) pool map ≡ wholeOf (refused k) pool map
+  unfolding made
+  whole-none k = go (same? k 0)
+    where
+      go : Same? k 0 → left (done k 0) pool map ≡ wholeOf (refused k) pool map
+      go (same e q) = rw (q, e)
+      go (other n q) = rw q
+
+  pub one-made : (w v : ℕ) (e : Effect) {a b : ℕ} {pool′ map′ : List ℕ} → after a pool′ ≡ storeOf w v pool → after b map′ ≡ finishOf e map
+      → left (done 0 1) pool′ map′ ≡ wholeOf (decided (store w v ∷ []) e) pool map
+  unfolding made
+  one-made w v e s f = rw (stored pool w v s, ← f)
+
+  pub two-made : (w v x y : ℕ) (e : Effect) {a b k : ℕ} {pool′ pool″ map′ : List ℕ} → after a pool′ ≡ storeOf w v pool → after b pool″ ≡ storeOf x y pool′ → after k map′ ≡ finishOf e map
+      → left (done 0 2) pool″ map′ ≡ wholeOf (decided (store w v ∷ store x y ∷ []) e) pool map
+  unfolding made
+  two-made w v x y e {pool′ = pool′} s t f = rw (stored pool′ x y t, stored pool w v s, ← f)
 
 -- ---- what a whole call leaves
 module _ (d : Decided) (pool map : List ℕ) where
@@ -106,11 +135,9 @@ module _ (pool map : List ℕ) (k : ℕ) where
       pub delete-mapped : length map ≡ bytesOf n → deleteMapped ≡ deletePlan pool k
       delete-mapped h = rw (← size, holds, eq-eqb (length map) (bytesOf n) h)
 
-      pub delete-carried : {p : Planned} {x : Left} → length map ≡ bytesOf n → p ≡ plannedOf (deletePlan pool k) → x ≡ carriedOf p pool map → x ≡ deleteOf pool map k
+      pub delete-made : {d : Decided} {x : Left} → length map ≡ bytesOf n → d ≡ deletePlan pool k → x ≡ wholeOf d pool map → x ≡ deleteOf pool map k
       unfolding deleteOf
-      delete-carried h e c =
-          c ∙ ap (λ (p : Planned). carriedOf p pool map) e ∙ carried-whole (deletePlan pool k) pool map (delete-inside pool k) (delete-few pool k)
-          ∙ ap (λ (d : Decided). wholeOf d pool map) (sym (delete-mapped h))
+      delete-made h e c = c ∙ ap (λ (d : Decided). wholeOf d pool map) (e ∙ sym (delete-mapped h))
 
   pub delete-whole-number : deleteOf pool map k .done .number ≡ deleteMapped .number
   unfolding deleteOf

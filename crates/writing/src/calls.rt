@@ -2,8 +2,10 @@
 ghost use mathlib.Core.Path.{_≡_};
 ghost use Prim.Native.Nat.{ℕ, _+_, _-_, _*_, _<_, _≤_};
 ghost use lib.ListN.{length, replicate};
-ghost use Rattle.writing.specs.Calls.{left, carriedOf, putOf, deleteOf, formatted, formatOf};
-use crate::deleting::plan_delete;
+ghost use Rattle.writing.specs.Removals.{decidedBy};
+ghost use Rattle.writing.specs.Calls.{left, wholeOf, carriedOf, putOf, deleteOf, formatted, formatOf};
+use crate::deleting::Removal;
+use crate::deleting::find_removal;
 use crate::putting::plan_put;
 use plan::Planned;
 use pool::Size;
@@ -36,6 +38,32 @@ pub fn put(pool: &mut [u64], map: &mut [u8], key: u64, value: u64) -> Done
     carry_out(pool, map, planned)
 }
 
+// A removal is made whole: its stores, one by one, and the map. No plan is laid out for so few.
+fn remove(pool: &mut [u64], map: &mut [u8], removal: Removal) -> Done
+    ensures { λ r. ⌜ left r (now (pool .exit)) (now (map .exit)) ≡ wholeOf (decidedBy removal) (now (pool .entry)) (now (map .entry)) ⌝ }
+{
+    match removal {
+        Removal::Refused(number) => Done { number, stores: 0 },
+        Removal::One(word, value, effect) => {
+            plan::store(pool, word, value);
+            plan::take_effect(map, effect);
+            Done {
+                number: 0,
+                stores: 1,
+            }
+        }
+        Removal::Two(word, value, next, header, effect) => {
+            plan::store(pool, word, value);
+            plan::store(pool, next, header);
+            plan::take_effect(map, effect);
+            Done {
+                number: 0,
+                stores: 2,
+            }
+        }
+    }
+}
+
 // Takes a key out.
 pub fn delete(pool: &mut [u64], map: &mut [u8], key: u64) -> Done
     ensures { λ r. ⌜ left r (now (pool .exit)) (now (map .exit)) ≡ deleteOf (now (pool .entry)) (now (map .entry)) key ⌝ }
@@ -52,8 +80,8 @@ pub fn delete(pool: &mut [u64], map: &mut [u8], key: u64) -> Done
             stores: 0,
         };
     }
-    let planned = plan_delete(pool, key);
-    carry_out(pool, map, planned)
+    let removal = find_removal(pool, n, key);
+    remove(pool, map, removal)
 }
 
 // Every byte of a map becomes 0.
