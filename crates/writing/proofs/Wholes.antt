@@ -21,52 +21,12 @@ use Rattle.pool.proofs.Sizes.{size-fits}
 use Rattle.plan.specs.Plans.{Decided, decided, refused, plannedOf, made, After, after, storeOf, finishOf, ran, runOf}
 use Rattle.plan.specs.declared.Effect.{Effect}
 use Rattle.plan.specs.declared.Planned.{Planned}
-use Rattle.plan.proofs.Laws.{run-whole, length-made, length-finish}
-use Rattle.writing.specs.declared.calls.Done.{Done}
-use Rattle.writing.specs.Puts.{store, putPlan}
+use Rattle.plan.proofs.Laws.{length-made, length-finish}
+use Rattle.writing.specs.declared.making.Done.{Done}
+use Rattle.writing.specs.Puts.{putPlan}
 use Rattle.writing.specs.Deletes.{deletePlan}
-use Rattle.writing.specs.Calls.{Left, done, left, wholeOf, carriedOf, putOf, mappedOf, deleteOf, Formatted, formatted, formatIn, formatOf}
+use Rattle.writing.specs.Calls.{Left, done, left, wholeOf, putOf, mappedOf, deleteOf, Formatted, formatted, formatIn, formatOf}
 use Rattle.writing.proofs.Fits.{put-inside, put-few, delete-inside, delete-few}
-
--- ---- a plan is carried out
-module _ (p : Planned) (pool map : List ℕ) where
-  pub carried-not : (p .number ≡ 0 → ⊥) → left (done (p .number) 0) pool map ≡ carriedOf p pool map
-  carried-not h = rw (ne-eqb (p .number) 0 h)
-
-  pub carried : {k s : ℕ} {pool′ map′ : List ℕ} → p .number ≡ 0 → ran s pool′ ≡ runOf (p .plan .count) (p .plan) pool → after k map′ ≡ finishOf (p .plan .effect) map
-      → left (done 0 s) pool′ map′ ≡ carriedOf p pool map
-  carried z r f = rw (eq-eqb (p .number) 0 z, ← r, ← f)
-
--- stores inside the pool, at most 21: all are made, in their order
-pub carried-whole : (d : Decided) (pool map : List ℕ) → Words (λ w. w < length pool) (d .stores) → length (d .stores) ≤ 21 → carriedOf (plannedOf d) pool map ≡ wholeOf d pool map
-carried-whole d pool map inside few = rw (run-whole (d .stores) (d .effect) few pool inside (length (d .stores)) (omega arith))
-
--- ---- stores that are made with no plan
-stored : (l : List ℕ) (i v : ℕ) {k : ℕ} {l′ : List ℕ} → after k l′ ≡ storeOf i v l → l′ ≡ set l i v
-stored l i v e = ap (λ (a : After). a .left) e ∙ go (less? i (length l))
-  where
-    go : (i < length l) ⊎ (length l ≤ i) → storeOf i v l .left ≡ set l i v
-    go (inl h) = rw (lt-ltb i (length l) h)
-    go (inr h) = rw (le-ltb i (length l) h) (sym (set-out l i v h))
-
-module _ (pool map : List ℕ) where
-  pub whole-none : (k : ℕ) → left (done k 0) pool map ≡ wholeOf (refused k) pool map
-  unfolding made
-  whole-none k = go (same? k 0)
-    where
-      go : Same? k 0 → left (done k 0) pool map ≡ wholeOf (refused k) pool map
-      go (same e q) = rw (q, e)
-      go (other n q) = rw q
-
-  pub one-made : (w v : ℕ) (e : Effect) {a b : ℕ} {pool′ map′ : List ℕ} → after a pool′ ≡ storeOf w v pool → after b map′ ≡ finishOf e map
-      → left (done 0 1) pool′ map′ ≡ wholeOf (decided (store w v ∷ []) e) pool map
-  unfolding made
-  one-made w v e s f = rw (stored pool w v s, ← f)
-
-  pub two-made : (w v x y : ℕ) (e : Effect) {a b k : ℕ} {pool′ pool″ map′ : List ℕ} → after a pool′ ≡ storeOf w v pool → after b pool″ ≡ storeOf x y pool′ → after k map′ ≡ finishOf e map
-      → left (done 0 2) pool″ map′ ≡ wholeOf (decided (store w v ∷ store x y ∷ []) e) pool map
-  unfolding made
-  two-made w v x y e {pool′ = pool′} s t f = rw (stored pool′ x y t, stored pool w v s, ← f)
 
 -- ---- what a whole call leaves
 module _ (d : Decided) (pool map : List ℕ) where
@@ -93,9 +53,9 @@ left-unique a b = (ap (λ (x : Left). x .done) (a ∙ sym b), ap (λ (x : Left).
 
 -- ---- put
 module _ (pool map : List ℕ) (k v : ℕ) where
-  pub put-carried : {p : Planned} {x : Left} → p ≡ plannedOf (putPlan pool map k v) → x ≡ carriedOf p pool map → x ≡ putOf pool map k v
+  pub put-made : {d : Decided} {x : Left} → d ≡ putPlan pool map k v → x ≡ wholeOf d pool map → x ≡ putOf pool map k v
   unfolding putOf
-  put-carried e c = c ∙ ap (λ (p : Planned). carriedOf p pool map) e ∙ carried-whole (putPlan pool map k v) pool map (put-inside pool map k v) (put-few pool map k v)
+  put-made e c = c ∙ ap (λ (d : Decided). wholeOf d pool map) e
 
   pub put-whole-number : putOf pool map k v .done .number ≡ putPlan pool map k v .number
   unfolding putOf

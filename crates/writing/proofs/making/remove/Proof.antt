@@ -1,8 +1,8 @@
 -- `remove` makes the stores of each kind of removal. Assumes nothing.
-use Rattle.writing.proofs.Wholes.{whole-none, one-made, two-made}
+use Rattle.writing.proofs.Makings.{whole-none, one-made, two-made}
 use borrow.Author.Needs.{needs}
-use Rattle.writing.proofs.calls.remove.Statement.{statement}
-use Rattle.writing.proofs.calls.remove.Tie as tie
+use Rattle.writing.proofs.making.remove.Statement.{statement}
+use Rattle.writing.proofs.making.remove.Tie as tie
 
 enum-known-removal : tie.Need-enum-known-removal
 enum-known-removal c = search needs
