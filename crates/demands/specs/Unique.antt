@@ -13,7 +13,7 @@ use Rattle.reading.specs.declared.listing.Listed.{Listed}
 use Rattle.writing.specs.Puts.{putPlan}
 use Rattle.writing.specs.Deletes.{deletePlan}
 use Rattle.writing.specs.Calls.{left, formatted, putOf, deleteOf, formatOf}
-use Rattle.writing.specs.declared.calls.Done.{Done}
+use Rattle.writing.specs.declared.making.Done.{Done}
 use Rattle.opening.specs.Openings.{openPlan, openOf, left as leaves}
 use Rattle.opening.specs.declared.mending.Opened.{Opened}
 

@@ -57,6 +57,17 @@ impl Planned {
     }
 }
 
+// The single store.
+pub fn store(pool: &mut [u64], word: usize, value: u64) -> u64
+    ensures { λ r. ⌜ after r (now (pool .exit)) ≡ storeOf word value (now (pool .entry)) ⌝ }
+{
+    if pool.len() <= word {
+        return 5;
+    }
+    pool[word] = value;
+    0
+}
+
 // The single step: the store at one place of these words and values.
 fn step_in(pool: &mut [u64], words: &[usize], values: &[u64], count: usize, at: usize) -> u64
     requires { ⌜ (length (now words) ≡ 21) × (length (now values) ≡ 21) ⌝ }
@@ -68,12 +79,7 @@ fn step_in(pool: &mut [u64], words: &[usize], values: &[u64], count: usize, at: 
     if count <= at {
         return 5;
     }
-    let word = words[at];
-    if pool.len() <= word {
-        return 5;
-    }
-    pool[word] = values[at];
-    0
+    store(pool, words[at], values[at])
 }
 
 // One step makes one store.
@@ -127,11 +133,10 @@ fn mark_both(map: &mut [u8], leaf: usize, node: usize, byte: u8) -> u64
     0
 }
 
-// Finishing changes only the named map bytes.
-pub fn finish(map: &mut [u8], plan: Plan) -> u64
-    ensures { λ r. ⌜ after r (now (map .exit)) ≡ finishOf (plan .effect) (now (map .entry)) ⌝ }
+// An effect changes only the map bytes that it names.
+pub fn take_effect(map: &mut [u8], effect: Effect) -> u64
+    ensures { λ r. ⌜ after r (now (map .exit)) ≡ finishOf effect (now (map .entry)) ⌝ }
 {
-    let effect = plan.effect;
     match effect {
         Effect::Nothing => 0,
         Effect::TakesLeaf(leaf) => mark(map, leaf, 1),
@@ -139,4 +144,12 @@ pub fn finish(map: &mut [u8], plan: Plan) -> u64
         Effect::FreesLeaf(leaf) => mark(map, leaf, 0),
         Effect::FreesBoth(leaf, node) => mark_both(map, leaf, node, 0),
     }
+}
+
+// Finishing changes only the named map bytes.
+pub fn finish(map: &mut [u8], plan: Plan) -> u64
+    ensures { λ r. ⌜ after r (now (map .exit)) ≡ finishOf (plan .effect) (now (map .entry)) ⌝ }
+{
+    let effect = plan.effect;
+    take_effect(map, effect)
 }

@@ -22,7 +22,7 @@ tab-same zero f g e = refl
 tab-same (suc n) f g e = ap₂ (λ (x : ℕ) (l : List ℕ). x ∷ l) (e 0) (tab-same n (λ i. f (suc i)) (λ i. g (suc i)) (λ i. e (suc i)))
 
 -- one value more, at the end
-tab-last : (n : ℕ) (f : ℕ → ℕ) → tab (suc n) f ≡ tab n f ++ f n ∷ []
+pub tab-last : (n : ℕ) (f : ℕ → ℕ) → tab (suc n) f ≡ tab n f ++ f n ∷ []
 unfolding tab
 tab-last zero f = refl
 tab-last (suc n) f = ap (λ (l : List ℕ). f 0 ∷ l) (tab-last n (λ i. f (suc i)))

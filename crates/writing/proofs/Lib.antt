@@ -5,6 +5,7 @@ pub mod Splits
 pub mod Puts
 pub mod Deletes
 pub mod Fits
+pub mod Makings
 pub mod Wholes
 pub mod Examples
 pub mod HeldRoom

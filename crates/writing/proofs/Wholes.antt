@@ -1,43 +1,32 @@
 -- Whole calls: plan, all stores in order, finish; a refusal leaves everything as it was; each promise has one outcome.
 -- Assumes nothing.
 use mathlib.Core.Path.{_≡_, refl, sym, ap, _∙_}
-use mathlib.Core.Logic.{inl, inr}
+use mathlib.Core.Logic.{_⊎_, inl, inr}
 use mathlib.Core.Bool.{Bool, true, false}
 use mathlib.Core.List.{List, [], _∷_}
 use Prim.Native.Nat.{ℕ, _-_, _*_, _≤_, _<_}
 use native.Mathlib.Omega.{arith}
-use borrow.Author.Tests.{eq-eqb, ne-eqb}
+use borrow.Author.Tests.{lt-ltb, le-ltb, eq-eqb, ne-eqb}
 use types.Run.{OneOf}
 use lib.Dec.{eqb, ltb}
 use lib.ListN.{length, set, replicate, length-set, length-replicate}
 use Rattle.digits.specs.Choice.{pick}
-use Rattle.tree.proofs.Basics.{Same?, same, other, same?}
+use lib.Seq.{set-out}
+use Rattle.tree.proofs.Basics.{Same?, same, other, same?, less?}
 use Rattle.tree.proofs.Stores.{Words}
 use Rattle.pool.specs.Sizes.{sizeOf, capacityOf, bytesOf, Sized}
 use Rattle.pool.specs.declared.Size.{Size}
 use Rattle.pool.specs.declared.Size.the-variants.{Holds, Wrong}
 use Rattle.pool.proofs.Sizes.{size-fits}
-use Rattle.plan.specs.Plans.{Decided, plannedOf, after, finishOf, ran, runOf}
+use Rattle.plan.specs.Plans.{Decided, decided, refused, plannedOf, made, After, after, storeOf, finishOf, ran, runOf}
+use Rattle.plan.specs.declared.Effect.{Effect}
 use Rattle.plan.specs.declared.Planned.{Planned}
-use Rattle.plan.proofs.Laws.{run-whole, length-made, length-finish}
-use Rattle.writing.specs.declared.calls.Done.{Done}
+use Rattle.plan.proofs.Laws.{length-made, length-finish}
+use Rattle.writing.specs.declared.making.Done.{Done}
 use Rattle.writing.specs.Puts.{putPlan}
 use Rattle.writing.specs.Deletes.{deletePlan}
-use Rattle.writing.specs.Calls.{Left, done, left, wholeOf, carriedOf, putOf, mappedOf, deleteOf, Formatted, formatted, formatIn, formatOf}
+use Rattle.writing.specs.Calls.{Left, done, left, wholeOf, putOf, mappedOf, deleteOf, Formatted, formatted, formatIn, formatOf}
 use Rattle.writing.proofs.Fits.{put-inside, put-few, delete-inside, delete-few}
-
--- ---- a plan is carried out
-module _ (p : Planned) (pool map : List ℕ) where
-  pub carried-not : (p .number ≡ 0 → ⊥) → left (done (p .number) 0) pool map ≡ carriedOf p pool map
-  carried-not h = rw (ne-eqb (p .number) 0 h)
-
-  pub carried : {k s : ℕ} {pool′ map′ : List ℕ} → p .number ≡ 0 → ran s pool′ ≡ runOf (p .plan .count) (p .plan) pool → after k map′ ≡ finishOf (p .plan .effect) map
-      → left (done 0 s) pool′ map′ ≡ carriedOf p pool map
-  carried z r f = rw (eq-eqb (p .number) 0 z, ← r, ← f)
-
--- stores inside the pool, at most 21: all are made, in their order
-pub carried-whole : (d : Decided) (pool map : List ℕ) → Words (λ w. w < length pool) (d .stores) → length (d .stores) ≤ 21 → carriedOf (plannedOf d) pool map ≡ wholeOf d pool map
-carried-whole d pool map inside few = rw (run-whole (d .stores) (d .effect) few pool inside (length (d .stores)) (omega arith))
 
 -- ---- what a whole call leaves
 module _ (d : Decided) (pool map : List ℕ) where
@@ -64,9 +53,9 @@ left-unique a b = (ap (λ (x : Left). x .done) (a ∙ sym b), ap (λ (x : Left).
 
 -- ---- put
 module _ (pool map : List ℕ) (k v : ℕ) where
-  pub put-carried : {p : Planned} {x : Left} → p ≡ plannedOf (putPlan pool map k v) → x ≡ carriedOf p pool map → x ≡ putOf pool map k v
+  pub put-made : {d : Decided} {x : Left} → d ≡ putPlan pool map k v → x ≡ wholeOf d pool map → x ≡ putOf pool map k v
   unfolding putOf
-  put-carried e c = c ∙ ap (λ (p : Planned). carriedOf p pool map) e ∙ carried-whole (putPlan pool map k v) pool map (put-inside pool map k v) (put-few pool map k v)
+  put-made e c = c ∙ ap (λ (d : Decided). wholeOf d pool map) e
 
   pub put-whole-number : putOf pool map k v .done .number ≡ putPlan pool map k v .number
   unfolding putOf
@@ -106,11 +95,9 @@ module _ (pool map : List ℕ) (k : ℕ) where
       pub delete-mapped : length map ≡ bytesOf n → deleteMapped ≡ deletePlan pool k
       delete-mapped h = rw (← size, holds, eq-eqb (length map) (bytesOf n) h)
 
-      pub delete-carried : {p : Planned} {x : Left} → length map ≡ bytesOf n → p ≡ plannedOf (deletePlan pool k) → x ≡ carriedOf p pool map → x ≡ deleteOf pool map k
+      pub delete-made : {d : Decided} {x : Left} → length map ≡ bytesOf n → d ≡ deletePlan pool k → x ≡ wholeOf d pool map → x ≡ deleteOf pool map k
       unfolding deleteOf
-      delete-carried h e c =
-          c ∙ ap (λ (p : Planned). carriedOf p pool map) e ∙ carried-whole (deletePlan pool k) pool map (delete-inside pool k) (delete-few pool k)
-          ∙ ap (λ (d : Decided). wholeOf d pool map) (sym (delete-mapped h))
+      delete-made h e c = c ∙ ap (λ (d : Decided). wholeOf d pool map) (e ∙ sym (delete-mapped h))
 
   pub delete-whole-number : deleteOf pool map k .done .number ≡ deleteMapped .number
   unfolding deleteOf

@@ -8,9 +8,8 @@ use Rattle.digits.specs.Choice.{pick}
 use Rattle.pool.specs.Sizes.{sizeOf, capacityOf, bytesOf}
 use Rattle.pool.specs.declared.Size.{Size}
 use Rattle.pool.specs.declared.Size.the-variants.{Holds, Wrong}
-use Rattle.plan.specs.Plans.{made, runOf, finishOf, Decided, refused}
-use Rattle.plan.specs.declared.Planned.{Planned}
-use Rattle.writing.specs.declared.calls.Done.{Done}
+use Rattle.plan.specs.Plans.{made, finishOf, Decided, refused}
+use Rattle.writing.specs.declared.making.Done.{Done}
 use Rattle.writing.specs.Puts.{putPlan}
 use Rattle.writing.specs.Deletes.{deletePlan}
 
@@ -32,13 +31,6 @@ wholeOf d pool map =
     pick (eqb (d .number) 0)
     (left (done 0 (length (d .stores))) (made (d .stores) pool) (finishOf (d .effect) map .left))
     (left (done (d .number) 0) pool map)
-
--- the same of a plan in its arrays: its stores one step each, as many as its count says
-abbrev pub carriedOf : Planned → List ℕ → List ℕ → Left
-carriedOf p pool map =
-    pick (eqb (p .number) 0)
-    (left (done 0 (runOf (p .plan .count) (p .plan) pool .steps)) (runOf (p .plan .count) (p .plan) pool .left) (finishOf (p .plan .effect) map .left))
-    (left (done (p .number) 0) pool map)
 
 unfoldable pub putOf : List ℕ → List ℕ → ℕ → ℕ → Left
 putOf pool map k v = wholeOf (putPlan pool map k v) pool map

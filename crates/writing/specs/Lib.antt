@@ -2,3 +2,4 @@ pub mod Puts
 pub mod Leads
 pub mod Deletes
 pub mod Calls
+pub mod Removals

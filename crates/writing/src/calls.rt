@@ -1,39 +1,33 @@
-// The whole calls: plan, all stores through the single step, finish.
+// The whole calls: find what the call comes to, make its stores in their order, finish.
 ghost use mathlib.Core.Path.{_≡_};
 ghost use Prim.Native.Nat.{ℕ, _+_, _-_, _*_, _<_, _≤_};
 ghost use lib.ListN.{length, replicate};
-ghost use Rattle.writing.specs.Calls.{left, carriedOf, putOf, deleteOf, formatted, formatOf};
-use crate::deleting::plan_delete;
-use crate::putting::plan_put;
-use plan::Planned;
+ghost use Rattle.writing.specs.Calls.{left, putOf, deleteOf, formatted, formatOf};
+use crate::deleting::find_removal;
+use crate::making::Done;
+use crate::making::put_at;
+use crate::making::remove;
+use crate::putting::find_place;
 use pool::Size;
-
-// What a whole call answers: document 01's number, and the stores made.
-pub struct Done {
-    pub number: u64,
-    pub stores: usize,
-}
-
-// A planned call is made whole: all its stores, one step each, and the map.
-fn carry_out(pool: &mut [u64], map: &mut [u8], planned: Planned) -> Done
-    ensures { λ r. ⌜ left r (now (pool .exit)) (now (map .exit)) ≡ carriedOf planned (now (pool .entry)) (now (map .entry)) ⌝ }
-{
-    let number = planned.number;
-    if number != 0 {
-        return Done { number, stores: 0 };
-    }
-    let plan = planned.plan;
-    let stores = plan::run(pool, plan, plan.count);
-    plan::finish(map, plan);
-    Done { number: 0, stores }
-}
 
 // Gives a key its value.
 pub fn put(pool: &mut [u64], map: &mut [u8], key: u64, value: u64) -> Done
     ensures { λ r. ⌜ left r (now (pool .exit)) (now (map .exit)) ≡ putOf (now (pool .entry)) (now (map .entry)) key value ⌝ }
 {
-    let planned = plan_put(pool, map, key, value);
-    carry_out(pool, map, planned)
+    let Size::Holds(n) = pool::capacity(pool) else {
+        return Done {
+            number: 1,
+            stores: 0,
+        };
+    };
+    if map.len() != 2 * n - 1 {
+        return Done {
+            number: 1,
+            stores: 0,
+        };
+    }
+    let place = find_place(pool, n, key);
+    put_at(pool, map, n, key, value, place)
 }
 
 // Takes a key out.
@@ -52,8 +46,8 @@ pub fn delete(pool: &mut [u64], map: &mut [u8], key: u64) -> Done
             stores: 0,
         };
     }
-    let planned = plan_delete(pool, key);
-    carry_out(pool, map, planned)
+    let removal = find_removal(pool, n, key);
+    remove(pool, map, removal)
 }
 
 // Every byte of a map becomes 0.

@@ -2,12 +2,13 @@
 mod calls;
 mod deleting;
 mod free;
+mod making;
 mod putting;
 mod splitting;
 
-pub use calls::Done;
 pub use calls::delete;
 pub use calls::format;
 pub use calls::put;
 pub use deleting::plan_delete;
+pub use making::Done;
 pub use putting::plan_put;

@@ -117,7 +117,7 @@ fn beside_empty(pool: &[u64], n: usize, key: u64, s: Spot) -> Place
 }
 
 // Where a put goes. Every question of damage is settled here, before room is looked for.
-fn find_place(pool: &[u64], n: usize, key: u64) -> Place
+pub fn find_place(pool: &[u64], n: usize, key: u64) -> Place
     requires { ⌜ Sized (now pool) n ⌝ }
     ensures { λ r. ⌜ Leads n key r (λ map v. putAt (now (pool .entry)) map n key v (walkOf (now (pool .entry)) n key)) ⌝ }
 {

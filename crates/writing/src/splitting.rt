@@ -55,7 +55,7 @@ pub fn grow(map: &[u8], n: usize, key: u64, value: u64, at: usize) -> Planned
 }
 
 // Child c of the new node of a split: the new leaf, the old target, or nothing.
-fn split_child(s: Cleft, leaf: usize, key: u64, c: usize) -> u64
+pub fn split_child(s: Cleft, leaf: usize, key: u64, c: usize) -> u64
     requires { ⌜ leaf < 1024 ⌝ }
     ensures { λ r. ⌜ r ≡ splitChild s leaf key c ⌝ }
 {
@@ -115,7 +115,7 @@ pub enum Room {
     Full,
 }
 
-fn find_room(map: &[u8], n: usize) -> Room
+pub fn find_room(map: &[u8], n: usize) -> Room
     requires { ⌜ (n ≤ 1024) × (length (now map) ≡ bytesOf n) × (1 ≤ n) ⌝ }
     ensures { λ r. ⌜ r ≡ roomOf (now (map .entry)) n ⌝ }
 {

@@ -1,7 +1,8 @@
 -- `step_in` judges in the definition's order: the count, the step number, the word. Assumes nothing.
+use mathlib.Core.Path.{_∙_}
 use borrow.Author.Tests.{lt-ltb, le-ltb, le-leb, lt-leb}
-use borrow.Author.Needs.{needs}
 use Rattle.plan.specs.Plans.{stepOf}
+use borrow.Author.Needs.{needs}
 use Rattle.plan.proofs.step_in.Statement.{statement}
 use Rattle.plan.proofs.step_in.Tie as tie
 
@@ -13,34 +14,27 @@ returns-2 : tie.Need-returns-2
 unfolding stepOf
 returns-2 c = simp (le-ltb _ _ (c .before .if1 .left), le-leb _ _ (c .if2 .taken))
 
-mul-word : tie.Need-mul-word
-mul-word c = search needs
+mul-store : tie.Need-mul-store
+mul-store c = search needs
 
-shared-slice-read-word : tie.Need-shared-slice-read-word
-shared-slice-read-word c = search needs
+shared-slice-read-store : tie.Need-shared-slice-read-store
+shared-slice-read-store c = search needs
 
-returns-3 : tie.Need-returns-3
-unfolding stepOf
-returns-3 c = simp (le-ltb _ _ (c .before .before .before .if1 .left), lt-leb _ _ (c .before .before .if2 .left), le-ltb _ _ (c .if3 .taken))
+mul-store-2 : tie.Need-mul-store-2
+mul-store-2 c = search needs
 
-mul-pool : tie.Need-mul-pool
-mul-pool c = search needs
+shared-slice-read-store-2 : tie.Need-shared-slice-read-store-2
+shared-slice-read-store-2 c = search needs
 
-shared-slice-read-pool : tie.Need-shared-slice-read-pool
-shared-slice-read-pool c = search needs
-
-mul-pool-2 : tie.Need-mul-pool-2
-mul-pool-2 c = search needs
-
-slice-write-pool : tie.Need-slice-write-pool
-slice-write-pool c = search needs
+store-requires : tie.Need-store-requires
+store-requires c κs = search needs
 
 same-length : tie.Need-same-length
 same-length c = search needs
 
-returns-4 : tie.Need-returns-4
+returns-3 : tie.Need-returns-3
 unfolding stepOf
-returns-4 c = simp (le-ltb _ _ (c .before .before .before .before .if1 .left), lt-leb _ _ (c .before .before .before .if2 .left), lt-ltb _ _ (c .before .if3 .left))
+returns-3 c = c .before .before .store .ensures ∙ simp (le-ltb _ _ (c .before .before .before .before .before .before .before .if1 .left), lt-leb _ _ (c .before .before .before .before .before .before .if2 .left))
 
 pub step-in-spec : {M : Type 1} → statement M
 step-in-spec =
@@ -48,12 +42,10 @@ step-in-spec =
     (tie.spec
     returns
     returns-2
-    mul-word
-    shared-slice-read-word
-    returns-3
-    mul-pool
-    shared-slice-read-pool
-    mul-pool-2
-    slice-write-pool
+    mul-store
+    shared-slice-read-store
+    mul-store-2
+    shared-slice-read-store-2
+    store-requires
     same-length
-    returns-4)
+    returns-3)

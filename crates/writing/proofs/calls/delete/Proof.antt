@@ -1,7 +1,8 @@
--- `delete` judges the map, plans and carries out. It rests on the law that a delete's stores lie inside the pool and are few. Assumes nothing.
+-- `delete` judges the map, finds what the delete comes to, and makes it. Assumes nothing.
+use mathlib.Core.Path.{sym, _∙_}
 use native.Mathlib.Omega.{arith}
+use Rattle.writing.proofs.Wholes.{delete-unsized-whole, delete-unmapped, delete-made}
 use borrow.Author.Needs.{needs}
-use Rattle.writing.proofs.Wholes.{delete-unsized-whole, delete-unmapped, delete-carried}
 use Rattle.writing.proofs.calls.delete.Statement.{statement}
 use Rattle.writing.proofs.calls.delete.Tie as tie
 
@@ -32,11 +33,11 @@ same-length-2 c = search needs
 returns-2 : tie.Need-returns-2
 returns-2 c = delete-unmapped _ _ _ (c .before .before .before .before .capacity .ensures .0) (c .before .before .n .given .1) (c .if1 .taken)
 
-plan-delete-requires : tie.Need-plan-delete-requires
-plan-delete-requires c κs = search needs
+find-removal-requires : tie.Need-find-removal-requires
+find-removal-requires c κs = (rw (c .before .before .before .n .given .1) at (c .before .before .before .before .before .capacity .ensures .1), sym (c .before .before .before .before .before .capacity .ensures .0) ∙ c .before .before .before .n .given .1)
 
-carry-out-requires : tie.Need-carry-out-requires
-carry-out-requires c κs = search needs
+remove-requires : tie.Need-remove-requires
+remove-requires c κs = search needs
 
 same-length-3 : tie.Need-same-length-3
 same-length-3 c = search needs
@@ -45,10 +46,7 @@ same-length-4 : tie.Need-same-length-4
 same-length-4 c = search needs
 
 returns-3 : tie.Need-returns-3
-returns-3 c =
-    let p = c .before .before .before .before .before .before .before in
-    let n = p .before .before .before .before in
-    delete-carried _ _ _ (n .before .before .capacity .ensures .0) (n .n .given .1) (p .before .before .if1 .left) (p .plan-delete .ensures) (c .before .before .before .before .carry-out .ensures)
+returns-3 c = delete-made _ _ _ (c .before .before .before .before .before .before .before .before .before .before .before .before .before .capacity .ensures .0) (c .before .before .before .before .before .before .before .before .before .before .before .n .given .1) (c .before .before .before .before .before .before .before .before .before .if1 .left) (c .before .before .before .before .before .before .before .find-removal .ensures) (c .before .before .before .before .remove .ensures)
 
 pub delete-spec : {M : Type 1} → statement M
 delete-spec =
@@ -63,8 +61,8 @@ delete-spec =
     sub-if1
     same-length-2
     returns-2
-    plan-delete-requires
-    carry-out-requires
+    find-removal-requires
+    remove-requires
     same-length-3
     same-length-4
     returns-3)

@@ -1,24 +1,69 @@
--- `put` plans and carries out. It rests on the law that a put's stores lie inside the pool and are few. Assumes nothing.
+-- `put` judges the sizes, finds the place and makes the put there. Assumes nothing.
+use native.Mathlib.Omega.{arith}
+use Rattle.writing.proofs.Puts.{put-unsized, put-unmapped, put-placed}
+use Rattle.writing.proofs.Makings.{whole-none}
+use Rattle.writing.proofs.Wholes.{put-made}
 use borrow.Author.Needs.{needs}
-use Rattle.writing.proofs.Wholes.{put-carried}
 use Rattle.writing.proofs.calls.put.Statement.{statement}
 use Rattle.writing.proofs.calls.put.Tie as tie
 
-plan-put-requires : tie.Need-plan-put-requires
-plan-put-requires c κs = search needs
+capacity-requires : tie.Need-capacity-requires
+capacity-requires c κs = search needs
 
-carry-out-requires : tie.Need-carry-out-requires
-carry-out-requires c κs = search needs
+enum-known-n : tie.Need-enum-known-n
+enum-known-n c = search needs
+
+enum-told : tie.Need-enum-told
+enum-told c = search needs
 
 same-length : tie.Need-same-length
 same-length c = search needs
 
+returns : tie.Need-returns
+returns c = put-made _ _ _ _ (put-unsized _ _ _ _ (c .before .before .capacity .ensures .0) (c .enum-told .given .1)) (whole-none _ _ 1)
+
+mul-if1 : tie.Need-mul-if1
+mul-if1 c = let z = rw (c .before .n .given .1) at (c .before .before .before .capacity .ensures .1) in omega arith
+
+sub-if1 : tie.Need-sub-if1
+sub-if1 c = let z = rw (c .before .n .given .1) at (c .before .before .before .capacity .ensures .1) in omega arith
+
 same-length-2 : tie.Need-same-length-2
 same-length-2 c = search needs
 
-returns : tie.Need-returns
-returns c = put-carried _ _ _ _ (c .before .before .before .before .before .before .before .plan-put .ensures) (c .before .before .before .before .carry-out .ensures)
+returns-2 : tie.Need-returns-2
+returns-2 c = put-made _ _ _ _ (put-unmapped _ _ _ _ (c .before .before .before .before .capacity .ensures .0) (c .before .before .n .given .1) (c .if1 .taken)) (whole-none _ _ 1)
+
+find-place-requires : tie.Need-find-place-requires
+find-place-requires c κs = rw (c .before .before .before .n .given .1) at (c .before .before .before .before .before .capacity .ensures .1)
+
+put-at-requires : tie.Need-put-at-requires
+put-at-requires c κs = let z = rw (c .before .before .before .before .before .before .n .given .1) at (c .before .before .before .before .before .before .before .before .capacity .ensures .1) in (z .some, z .most, c .before .before .before .before .if1 .left, c .before .before .find-place .ensures .able)
+
+same-length-3 : tie.Need-same-length-3
+same-length-3 c = search needs
+
+same-length-4 : tie.Need-same-length-4
+same-length-4 c = search needs
+
+returns-3 : tie.Need-returns-3
+returns-3 c = put-made _ _ _ _ (put-placed _ _ _ _ (c .before .before .before .before .before .before .before .before .before .before .before .before .before .capacity .ensures .0) (c .before .before .before .before .before .before .before .before .before .before .before .n .given .1) (c .before .before .before .before .before .before .before .before .before .if1 .left) (c .before .before .before .before .before .before .before .find-place .ensures)) (c .before .before .before .before .put-at .ensures)
 
 pub put-spec : {M : Type 1} → statement M
 put-spec =
-    tie.close (tie.spec plan-put-requires carry-out-requires same-length same-length-2 returns)
+    tie.close
+    (tie.spec
+    capacity-requires
+    enum-known-n
+    enum-told
+    same-length
+    returns
+    mul-if1
+    sub-if1
+    same-length-2
+    returns-2
+    find-place-requires
+    put-at-requires
+    same-length-3
+    same-length-4
+    returns-3)

@@ -1,7 +1,7 @@
--- `finish` goes by the effect, each kind by `mark` or `mark_both`. Assumes nothing.
+-- `take_effect` goes by the effect, each kind by `mark` or `mark_both`. Assumes nothing.
 use borrow.Author.Needs.{needs}
-use Rattle.plan.proofs.finish.Statement.{statement}
-use Rattle.plan.proofs.finish.Tie as tie
+use Rattle.plan.proofs.take_effect.Statement.{statement}
+use Rattle.plan.proofs.take_effect.Tie as tie
 
 enum-told : tie.Need-enum-told
 enum-told c = search needs
@@ -57,8 +57,8 @@ same-length-4 c = search needs
 returns-5 : tie.Need-returns-5
 returns-5 c = rw (c .before .before .before .before .before .effect4 .given .1) (c .before .before .mark-both2 .ensures)
 
-pub finish-spec : {M : Type 1} → statement M
-finish-spec =
+pub take-effect-spec : {M : Type 1} → statement M
+take-effect-spec =
     tie.close
     (tie.spec
     enum-told

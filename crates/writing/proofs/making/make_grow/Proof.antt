@@ -1,0 +1,51 @@
+-- `make_grow` makes the leaf, then the reference. Assumes nothing.
+use Rattle.writing.proofs.Makings.{grow-full, grow-made}
+use borrow.Author.Needs.{needs}
+use Rattle.writing.proofs.making.make_grow.Statement.{statement}
+use Rattle.writing.proofs.making.make_grow.Tie as tie
+
+lowest-free-requires : tie.Need-lowest-free-requires
+lowest-free-requires c κs = search needs
+
+same-length : tie.Need-same-length
+same-length c = search needs
+
+returns : tie.Need-returns
+returns c = let a = c .before .before .before .before .before .args in grow-full (a .pool .now) (a .map .now) (a .n) (a .key) (a .value) (a .at) (c .before .lowest-free .ensures) (c .if1 .taken)
+
+make-leaf-requires : tie.Need-make-leaf-requires
+make-leaf-requires c κs = search needs
+
+leaf-ref-requires : tie.Need-leaf-ref-requires
+leaf-ref-requires c κs = search needs
+
+store-requires : tie.Need-store-requires
+store-requires c κs = search needs
+
+take-effect-requires : tie.Need-take-effect-requires
+take-effect-requires c κs = search needs
+
+same-length-2 : tie.Need-same-length-2
+same-length-2 c = search needs
+
+same-length-3 : tie.Need-same-length-3
+same-length-3 c = search needs
+
+returns-2 : tie.Need-returns-2
+returns-2 c = let a = c .before .before .before .before .before .before .before .before .before .before .before .before .before .before .before .before .before .before .args in
+    grow-made (a .pool .now) (a .map .now) (a .n) (a .key) (a .value) (a .at) (c .before .before .before .before .before .before .before .before .before .before .before .before .before .before .lowest-free .ensures) (c .before .before .before .before .before .before .before .before .before .before .before .before .before .if1 .left) (c .before .before .before .before .before .before .before .before .before .before .before .make-leaf .ensures) (c .before .before .before .before .before .before .before .leaf-ref .ensures) (c .before .before .before .before .before .before .store .ensures) (c .before .before .take-effect .ensures)
+
+pub make-grow-spec : {M : Type 1} → statement M
+make-grow-spec =
+    tie.close
+    (tie.spec
+    lowest-free-requires
+    same-length
+    returns
+    make-leaf-requires
+    leaf-ref-requires
+    store-requires
+    take-effect-requires
+    same-length-2
+    same-length-3
+    returns-2)

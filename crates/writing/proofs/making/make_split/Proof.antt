@@ -1,0 +1,94 @@
+-- `make_split` makes the leaf, the node, the target's header and the reference. Assumes nothing.
+use mathlib.Core.Path.{sym, _∙_}
+use Prim.Native.Nat.{_≤_, _<_}
+use native.Mathlib.Omega.{arith}
+use Rattle.pool.specs.Sizes.{bytesOf}
+use Rattle.writing.proofs.Splits.{slots-inside}
+use Rattle.writing.proofs.Makings.{split-full, split-made, target-few}
+use borrow.Author.Needs.{needs}
+use Rattle.writing.proofs.making.make_split.Statement.{statement}
+use Rattle.writing.proofs.making.make_split.Tie as tie
+
+find-room-requires : tie.Need-find-room-requires
+find-room-requires c κs = search needs
+
+enum-known-leaf : tie.Need-enum-known-leaf
+enum-known-leaf c = search needs
+
+enum-told : tie.Need-enum-told
+enum-told c = search needs
+
+same-length : tie.Need-same-length
+same-length c = search needs
+
+returns : tie.Need-returns
+returns c = let a = c .before .before .before .before .before .before .args in split-full (a .pool .now) (a .map .now) (a .n) (a .s) (a .key) (a .value) (a .target) (c .before .before .find-room .ensures) (c .enum-told .given .1)
+
+-- where the two slots are
+slots : (c : tie.After-known-told)
+    → let n = c .before .before .before .before .before .before .before .args .n in
+    let leaf = c .before .leaf .given .0 .0 in
+    let byte = c .before .leaf .given .0 .1 .0 in
+    (leaf < n) × (n ≤ byte) × (byte < bytesOf n)
+slots c =
+    let a = c .before .before .before .before .before .before .before .args in
+    slots-inside (a .map .now) (a .n) (sym (c .before .leaf .given .1) ∙ c .before .before .before .find-room .ensures)
+
+sub-node : tie.Need-sub-node
+sub-node c = let h = slots c in omega arith
+
+make-leaf-requires : tie.Need-make-leaf-requires
+make-leaf-requires c κs = let h = slots (c .before) in omega arith
+
+node-word-requires : tie.Need-node-word-requires
+node-word-requires c κs = let h = slots (c .before .before .before .before .before) in (omega arith, omega arith)
+
+make-node-requires : tie.Need-make-node-requires
+make-node-requires c κs = let h = slots (c .before .before .before .before .before .before) in (omega (arith, c .node-word .ensures), omega arith, c .before .before .before .before .before .before .before .before .before .before .before .before .before .pre .3, c .before .before .before .before .before .before .before .before .before .before .before .before .before .pre .4)
+
+make-target-requires : tie.Need-make-target-requires
+make-target-requires c κs = search needs
+
+node-ref-requires : tie.Need-node-ref-requires
+node-ref-requires c κs = let h = slots (c .before .before .before .before .before .before .before .before .before .before .before .before .before .before) in omega arith
+
+store-requires : tie.Need-store-requires
+store-requires c κs = search needs
+
+take-effect-requires : tie.Need-take-effect-requires
+take-effect-requires c κs = search needs
+
+add-t20 : tie.Need-add-t20
+add-t20 c = omega (arith, c .before .before .before .before .before .before .before .before .before .before .before .make-target .ensures .0, target-few (c .before .before .before .before .before .before .before .before .before .before .before .before .before .before .before .before .before .before .before .before .before .before .before .before .before .before .before .before .before .args .n) (c .before .before .before .before .before .before .before .before .before .before .before .before .before .before .before .before .before .before .before .before .before .before .before .before .before .before .before .before .before .args .s) (c .before .before .before .before .before .before .before .before .before .before .before .before .before .before .before .before .before .before .before .before .before .before .before .before .before .before .before .before .before .args .target))
+
+same-length-2 : tie.Need-same-length-2
+same-length-2 c = search needs
+
+same-length-3 : tie.Need-same-length-3
+same-length-3 c = search needs
+
+returns-2 : tie.Need-returns-2
+returns-2 c = let a = c .before .before .before .before .before .before .before .before .before .before .before .before .before .before .before .before .before .before .before .before .before .before .before .before .before .before .before .before .before .args in
+    split-made (a .pool .now) (a .map .now) (a .n) (a .s) (a .key) (a .value) (a .target) (c .before .before .before .before .before .before .before .before .before .before .before .before .before .before .before .before .before .before .before .before .before .before .before .before .before .find-room .ensures) (c .before .before .before .before .before .before .before .before .before .before .before .before .before .before .before .before .before .before .before .before .before .before .before .leaf .given .1) (c .before .before .before .before .before .before .before .before .before .before .before .before .before .before .before .before .before .before .before .before .make-leaf .ensures) (rw (c .before .before .before .before .before .before .before .before .before .before .before .before .before .before .before .before .node-word .ensures) at (c .before .before .before .before .before .before .before .before .before .before .before .before .before .before .before .make-node .ensures)) (c .before .before .before .before .before .before .before .before .before .before .before .make-target .ensures .0) (c .before .before .before .before .before .before .before .before .before .before .before .make-target .ensures .1) (c .before .before .before .before .before .before .before .node-ref .ensures) (c .before .before .before .before .before .before .store .ensures) (c .before .before .take-effect .ensures)
+
+pub make-split-spec : {M : Type 1} → statement M
+make-split-spec =
+    tie.close
+    (tie.spec
+    find-room-requires
+    enum-known-leaf
+    enum-told
+    same-length
+    returns
+    sub-node
+    make-leaf-requires
+    node-word-requires
+    make-node-requires
+    make-target-requires
+    node-ref-requires
+    store-requires
+    take-effect-requires
+    add-t20
+    same-length-2
+    same-length-3
+    returns-2)
