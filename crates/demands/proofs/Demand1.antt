@@ -24,10 +24,10 @@ use Rattle.reading.specs.Lookups.{Answer, lookupOf}
 use Rattle.reading.specs.Listings.{Shown, listOf}
 use Rattle.reading.proofs.Answers.{Looks, lookup-answers, Lists, list-answers}
 use Rattle.reading.proofs.Answers as reading
-use Rattle.writing.specs.Puts.{putPlan}
-use Rattle.writing.specs.Deletes.{deletePlan}
+use Rattle.planning.specs.Puts.{putPlan}
+use Rattle.planning.specs.Deletes.{deletePlan}
 use Rattle.writing.specs.Calls.{Left, left, done, Formatted, formatted, mappedOf, putOf, deleteOf, formatOf}
-use Rattle.writing.proofs.Fits.{put-number, put-refusal, put-few, put-inside, delete-number, delete-refusal, delete-few, delete-inside}
+use Rattle.planning.proofs.Fits.{put-number, put-refusal, put-few, put-inside, delete-number, delete-refusal, delete-few, delete-inside}
 use Rattle.writing.proofs.Wholes.{put-whole-number, put-refused, put-lengths, deleteMapped, delete-whole-number, delete-refused, delete-lengths, Formats, format-formats}
 use Rattle.survey.specs.Surveys.{surveyOf}
 use Rattle.opening.specs.Openings.{mendFirst, openIn, openPlan, openOf}

@@ -10,11 +10,11 @@ use Rattle.tree.specs.Tree.{leaves, find}
 use Rattle.plan.specs.Plans.{made, Decided}
 use Rattle.held.specs.Ways.{dig}
 use Rattle.reading.specs.Rows.{Word, Words}
-use Rattle.writing.specs.Puts.{putPlan}
-use Rattle.writing.specs.Deletes.{deletePlan}
+use Rattle.planning.specs.Puts.{putPlan}
+use Rattle.planning.specs.Deletes.{deletePlan}
 use Rattle.writing.specs.Calls.{Left, putOf, deleteOf}
-use Rattle.writing.proofs.HeldPuts.{PutIs, full, does}
-use Rattle.writing.proofs.HeldDeletes.{DeleteIs, absent, does as deletes}
+use Rattle.planning.proofs.HeldPuts.{PutIs, full, does}
+use Rattle.planning.proofs.HeldDeletes.{DeleteIs, absent, does as deletes}
 use Rattle.demands.specs.Tables.{Table, given, without}
 use Rattle.demands.specs.Demand2.{Reading, Done, Refused, Full, Demand2, Demand2Holds}
 use Rattle.demands.specs.Demand3.{Op, put, delete, planned, whole, effect}

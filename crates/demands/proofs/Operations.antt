@@ -27,12 +27,12 @@ use Rattle.plan.specs.declared.Effect.{Effect}
 use Rattle.held.specs.Ways.{dig, mem}
 use Rattle.held.specs.Maps.{Marked}
 use Rattle.reading.specs.Rows.{Word}
-use Rattle.writing.specs.Puts.{putPlan}
-use Rattle.writing.specs.Deletes.{deletePlan}
+use Rattle.planning.specs.Puts.{putPlan}
+use Rattle.planning.specs.Deletes.{deletePlan}
 use Rattle.writing.specs.Calls.{Left, wholeOf, putOf, deleteOf}
-use Rattle.writing.proofs.Fits.{put-inside, put-named, delete-inside, delete-named}
-use Rattle.writing.proofs.HeldPuts.{PutIs, full, does, put-is}
-use Rattle.writing.proofs.HeldDeletes.{DeleteIs, absent, does as deletes, delete-is}
+use Rattle.planning.proofs.Fits.{put-inside, put-named, delete-inside, delete-named}
+use Rattle.planning.proofs.HeldPuts.{PutIs, full, does, put-is}
+use Rattle.planning.proofs.HeldDeletes.{DeleteIs, absent, does as deletes, delete-is}
 use Rattle.demands.specs.Tables.{Table, given, without, Names}
 use Rattle.demands.specs.Demand3.{Op, put, delete, planned, whole, effect, Loosely, put-before, put-whole, delete-before, delete-since, InOrder, first, counts}
 use Rattle.demands.proofs.States.{State, fits, tree-names, stored, finish-marks}

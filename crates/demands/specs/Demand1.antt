@@ -16,8 +16,8 @@ use Rattle.plan.specs.declared.Effect.{Effect}
 use Rattle.plan.specs.declared.Effect.the-variants.{Nothing}
 use Rattle.reading.specs.Lookups.{lookupOf}
 use Rattle.reading.specs.Listings.{listOf}
-use Rattle.writing.specs.Puts.{putPlan}
-use Rattle.writing.specs.Deletes.{deletePlan}
+use Rattle.planning.specs.Puts.{putPlan}
+use Rattle.planning.specs.Deletes.{deletePlan}
 use Rattle.writing.specs.Calls.{putOf, deleteOf, formatOf}
 use Rattle.opening.specs.Openings.{openPlan, openOf}
 

@@ -14,8 +14,8 @@ use Rattle.digits.specs.Choice.{pick}
 use Rattle.tree.specs.Stores.{Store, Part}
 use Rattle.pool.specs.Sizes.{bytesOf}
 use Rattle.plan.specs.Plans.{made, Decided}
-use Rattle.writing.specs.Puts.{putPlan}
-use Rattle.writing.specs.Deletes.{deletePlan}
+use Rattle.planning.specs.Puts.{putPlan}
+use Rattle.planning.specs.Deletes.{deletePlan}
 use Rattle.writing.specs.Calls.{Left, putOf, deleteOf, formatOf}
 use Rattle.opening.specs.Openings.{openOf, openSteps}
 use Rattle.reading.specs.Rows.{Word}

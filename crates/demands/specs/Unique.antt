@@ -10,8 +10,8 @@ use Rattle.reading.specs.Lookups.{told, lookupOf}
 use Rattle.reading.specs.Listings.{shown, listOf}
 use Rattle.reading.specs.declared.finding.Found.{Found}
 use Rattle.reading.specs.declared.listing.Listed.{Listed}
-use Rattle.writing.specs.Puts.{putPlan}
-use Rattle.writing.specs.Deletes.{deletePlan}
+use Rattle.planning.specs.Puts.{putPlan}
+use Rattle.planning.specs.Deletes.{deletePlan}
 use Rattle.writing.specs.Calls.{left, formatted, putOf, deleteOf, formatOf}
 use Rattle.writing.specs.declared.making.Done.{Done}
 use Rattle.opening.specs.Openings.{openPlan, openOf, left as leaves}

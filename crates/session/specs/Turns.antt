@@ -8,8 +8,8 @@ use Rattle.plan.specs.declared.Planned.{Planned}
 use Rattle.reading.specs.Lookups.{lookupOf}
 use Rattle.reading.specs.Lookups as found
 use Rattle.reading.specs.Listings.{Shown, listOf}
-use Rattle.writing.specs.Puts.{putPlan}
-use Rattle.writing.specs.Deletes.{deletePlan}
+use Rattle.planning.specs.Puts.{putPlan}
+use Rattle.planning.specs.Deletes.{deletePlan}
 use Rattle.writing.specs.Calls.{putOf, deleteOf}
 use Rattle.writing.specs.Calls as call
 use Rattle.opening.specs.Openings.{openOf}

@@ -7,8 +7,8 @@ ghost use Rattle.digits.specs.Choice.{pick};
 ghost use Rattle.plan.specs.Plans.{after, stepOf};
 ghost use Rattle.reading.specs.Lookups.{answer, lookupOf};
 ghost use Rattle.reading.specs.Listings.{listOf};
-ghost use Rattle.writing.specs.Puts.{putPlan};
-ghost use Rattle.writing.specs.Deletes.{deletePlan};
+ghost use Rattle.planning.specs.Puts.{putPlan};
+ghost use Rattle.planning.specs.Deletes.{deletePlan};
 ghost use Rattle.writing.specs.Calls.{putOf, deleteOf, formatted, formatOf};
 ghost use Rattle.opening.specs.Openings.{openPlan};
 ghost use Rattle.wort.specs.Plans.{effectWords, wordsOf, effectOf, planIn, finishIn};
@@ -209,7 +209,7 @@ pub extern "C" fn wort_plan_put(
 ) -> u64
     ensures { λ r. ⌜ planned r (now (plan .exit)) ≡ plannedIn (putPlan (now (pool .entry)) (now (map .entry)) key value) ⌝ }
 {
-    let p = writing::plan_put(pool, map, key, value);
+    let p = planning::plan_put(pool, map, key, value);
     hand_out(plan, p)
 }
 
@@ -217,7 +217,7 @@ pub extern "C" fn wort_plan_put(
 pub extern "C" fn wort_plan_delete(pool: &[u64], key: u64, plan: &mut [u64; 46]) -> u64
     ensures { λ r. ⌜ planned r (now (plan .exit)) ≡ plannedIn (deletePlan (now (pool .entry)) key) ⌝ }
 {
-    let p = writing::plan_delete(pool, key);
+    let p = planning::plan_delete(pool, key);
     hand_out(plan, p)
 }
 

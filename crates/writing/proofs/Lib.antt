@@ -1,13 +1,3 @@
-pub mod LowestFree
-pub mod Arrays
-pub mod Counts
-pub mod Splits
-pub mod Puts
-pub mod Deletes
-pub mod Fits
 pub mod Makings
 pub mod Wholes
 pub mod Examples
-pub mod HeldRoom
-pub mod HeldPuts
-pub mod HeldDeletes

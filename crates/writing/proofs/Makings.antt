@@ -18,15 +18,15 @@ use Rattle.plan.specs.Plans.{Decided, decided, refused, made, After, after, sto
 use Rattle.plan.specs.declared.Effect.{Effect}
 use Rattle.plan.specs.declared.Effect.the-variants.{TakesLeaf, TakesBoth}
 use Rattle.plan.proofs.Laws.{made-append}
-use Rattle.writing.specs.declared.splitting.Cleft.{Cleft}
-use Rattle.writing.specs.declared.splitting.Target.{Target}
-use Rattle.writing.specs.declared.splitting.Target.the-variants.{ALeaf, ANode}
-use Rattle.writing.specs.declared.splitting.Room.{Room}
-use Rattle.writing.specs.declared.splitting.Room.the-variants.{Slots, Full}
-use Rattle.writing.specs.Puts.{store, freeLeaf, growOf, splitChild, targetHeader, splitStores, roomOf, splitOf}
+use Rattle.planning.specs.declared.splitting.Cleft.{Cleft}
+use Rattle.planning.specs.declared.splitting.Target.{Target}
+use Rattle.planning.specs.declared.splitting.Target.the-variants.{ALeaf, ANode}
+use Rattle.planning.specs.declared.splitting.Room.{Room}
+use Rattle.planning.specs.declared.splitting.Room.the-variants.{Slots, Full}
+use Rattle.planning.specs.Puts.{store, freeLeaf, growOf, splitChild, targetHeader, splitStores, roomOf, splitOf}
 use Rattle.writing.specs.Calls.{done, left, wholeOf}
-use Rattle.writing.proofs.Arrays.{tab-last}
-use Rattle.writing.proofs.Counts.{leaf-split-count, node-split-count}
+use Rattle.planning.proofs.Arrays.{tab-last}
+use Rattle.planning.proofs.Counts.{leaf-split-count, node-split-count}
 
 -- a store that is made, inside or not
 pub stored : (l : List ℕ) (i v : ℕ) {k : ℕ} {l′ : List ℕ} → after k l′ ≡ storeOf i v l → l′ ≡ set l i v

@@ -23,10 +23,10 @@ use Rattle.plan.specs.declared.Effect.{Effect}
 use Rattle.plan.specs.declared.Planned.{Planned}
 use Rattle.plan.proofs.Laws.{length-made, length-finish}
 use Rattle.writing.specs.declared.making.Done.{Done}
-use Rattle.writing.specs.Puts.{putPlan}
-use Rattle.writing.specs.Deletes.{deletePlan}
+use Rattle.planning.specs.Puts.{putPlan}
+use Rattle.planning.specs.Deletes.{deletePlan}
 use Rattle.writing.specs.Calls.{Left, done, left, wholeOf, putOf, mappedOf, deleteOf, Formatted, formatted, formatIn, formatOf}
-use Rattle.writing.proofs.Fits.{put-inside, put-few, delete-inside, delete-few}
+use Rattle.planning.proofs.Fits.{put-inside, put-few, delete-inside, delete-few}
 
 -- ---- what a whole call leaves
 module _ (d : Decided) (pool map : List ℕ) where

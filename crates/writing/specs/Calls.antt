@@ -10,8 +10,8 @@ use Rattle.pool.specs.declared.Size.{Size}
 use Rattle.pool.specs.declared.Size.the-variants.{Holds, Wrong}
 use Rattle.plan.specs.Plans.{made, finishOf, Decided, refused}
 use Rattle.writing.specs.declared.making.Done.{Done}
-use Rattle.writing.specs.Puts.{putPlan}
-use Rattle.writing.specs.Deletes.{deletePlan}
+use Rattle.planning.specs.Puts.{putPlan}
+use Rattle.planning.specs.Deletes.{deletePlan}
 
 -- the number given back, the stores made, and the pool and the map after the call
 pub record Left : Type 0 where

@@ -3,11 +3,11 @@ ghost use mathlib.Core.Path.{_≡_};
 ghost use Prim.Native.Nat.{ℕ, _+_, _-_, _*_, _<_, _≤_};
 ghost use lib.ListN.{length, replicate};
 ghost use Rattle.writing.specs.Calls.{left, putOf, deleteOf, formatted, formatOf};
-use crate::deleting::find_removal;
 use crate::making::Done;
 use crate::making::put_at;
 use crate::making::remove;
-use crate::putting::find_place;
+use planning::find_place;
+use planning::find_removal;
 use pool::Size;
 
 // Gives a key its value.

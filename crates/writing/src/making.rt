@@ -8,20 +8,20 @@ ghost use Rattle.tree.specs.Stores.{block, tab};
 ghost use Rattle.pool.specs.Sizes.{bytesOf};
 ghost use Rattle.pool.specs.Places.{leafWord, nodeWord};
 ghost use Rattle.plan.specs.Plans.{made};
-ghost use Rattle.writing.specs.Puts.{splitChild, targetHeader, Splits, growOf, splitOf};
-ghost use Rattle.writing.specs.Leads.{planAt, Able};
-ghost use Rattle.writing.specs.Removals.{decidedBy};
+ghost use Rattle.planning.specs.Puts.{splitChild, targetHeader, Splits, growOf, splitOf};
+ghost use Rattle.planning.specs.Leads.{planAt, Able};
+ghost use Rattle.planning.specs.Removals.{decidedBy};
 ghost use Rattle.writing.specs.Calls.{left, wholeOf};
-use crate::deleting::Removal;
-use crate::free::lowest_free;
-use crate::putting::Place;
-use crate::splitting::Cleft;
-use crate::splitting::Room;
-use crate::splitting::Target;
-use crate::splitting::find_room;
-use crate::splitting::split_child;
 use digits::Header;
 use plan::Effect;
+use planning::Cleft;
+use planning::Place;
+use planning::Removal;
+use planning::Room;
+use planning::Target;
+use planning::find_room;
+use planning::lowest_free;
+use planning::split_child;
 
 // What a whole call answers: document 01's number, and the stores made.
 pub struct Done {

@@ -4,7 +4,7 @@ use Prim.Native.Nat.{ℕ, _-_, _≤_, _<_}
 use native.Mathlib.Omega.{arith}
 use borrow.Author.Needs.{needs}
 use lib.ListN.{length, getD}
-use Rattle.writing.proofs.Arrays.{zero-on, all-zero}
+use Rattle.planning.proofs.Arrays.{zero-on, all-zero}
 use Rattle.writing.proofs.calls.clear.Statement.{statement}
 use Rattle.writing.proofs.calls.clear.Tie as tie
 

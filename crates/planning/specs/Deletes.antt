@@ -1,0 +1,90 @@
+-- What a delete stores, in order, in any pool.
+-- Assumes nothing.
+use mathlib.Core.List.{List, [], _∷_}
+use Prim.Native.Nat.{ℕ, _+_, _-_}
+use lib.Dec.{eqb, ltb}
+use Rattle.digits.specs.Choice.{pick}
+use Rattle.digits.specs.Headers.{headerOf}
+use Rattle.pool.specs.Sizes.{capacityOf}
+use Rattle.pool.specs.Places.{keyAt, headerAt, childAt, nodeWord}
+use Rattle.pool.specs.Refs.{refOf}
+use Rattle.pool.specs.declared.Size.{Size}
+use Rattle.pool.specs.declared.Size.the-variants.{Holds, Wrong}
+use Rattle.pool.specs.declared.Ref.{Ref}
+use Rattle.pool.specs.declared.Ref.the-variants.{Empty, Leaf, Node, Bad}
+use Rattle.walk.specs.Walks.{headOf, walkOf, lowestOf, childrenOf, otherChild}
+use Rattle.walk.specs.declared.Head.{Head}
+use Rattle.walk.specs.declared.Head.the-variants.{Branch, Wrong as Unaccepted}
+use Rattle.walk.specs.declared.Spot.{Spot}
+use Rattle.walk.specs.declared.End.{End}
+use Rattle.walk.specs.declared.End.the-variants.{AtLeaf, AtEmpty, Stopped, Damaged}
+use Rattle.walk.specs.declared.Lowest.{Lowest}
+use Rattle.walk.specs.declared.Lowest.the-variants.{Key, NoKey}
+use Rattle.plan.specs.Plans.{Decided, decided, refused}
+use Rattle.plan.specs.declared.Effect.the-variants.{FreesLeaf, FreesBoth}
+use Rattle.planning.specs.Puts.{store}
+
+-- one store: a reference to leaf i becomes 0
+abbrev pub emptied : ℕ → ℕ → Decided
+emptied at i = decided (store at 0 ∷ []) (FreesLeaf i)
+
+-- one store: "the reference to P takes the other child", r
+abbrev pub bypassed : ℕ → Spot → ℕ → ℕ → Decided
+bypassed n s i r = decided (store (s .over) r ∷ []) (FreesBoth i (n + s .node))
+
+-- "If that child is a node, its header follows (depth: walk depth of P; same branch place; digits from its lowest leaf)." The other child r is
+-- node j, which branches at b.
+abbrev pub liftOf : ℕ → Spot → ℕ → ℕ → ℕ → ℕ → Lowest → Decided
+liftOf n s i r j b (Key k2) =
+    decided (store (s .over) r ∷ store (nodeWord n j) (headerOf (s .above) (b - s .above) k2) ∷ []) (FreesBoth i (n + s .node))
+liftOf n s i r j b NoKey = refused 2
+
+abbrev pub liftAt : List ℕ → ℕ → Spot → ℕ → ℕ → ℕ → Head → Decided
+liftAt pool n s i r j (Branch b) = liftOf n s i r j b (lowestOf pool n (s .depth) r)
+liftAt pool n s i r j Unaccepted = refused 2
+
+abbrev pub liftIn : List ℕ → ℕ → Spot → ℕ → ℕ → ℕ → Decided
+liftIn pool n s i r j = liftAt pool n s i r j (headOf (s .depth) (headerAt pool n j))
+
+-- "In 3 the other child is read under the walk's rules, at depth b+1 of P."
+abbrev pub mergeOf : List ℕ → ℕ → Spot → ℕ → ℕ → Ref → Decided
+mergeOf pool n s i r (Leaf o) = bypassed n s i r
+mergeOf pool n s i r (Node j) = liftIn pool n s i r j
+mergeOf pool n s i r Empty = refused 2
+mergeOf pool n s i r Bad = refused 2
+
+abbrev pub mergeWith : List ℕ → ℕ → Spot → ℕ → ℕ → Decided
+mergeWith pool n s i r = mergeOf pool n s i r (refOf n r)
+
+-- "2. Its node P has three or more children: that child becomes 0. 3. P has two: .. 4. P has one: damage."
+abbrev pub unlinkOf : List ℕ → ℕ → Spot → ℕ → Decided
+unlinkOf pool n s i =
+    pick (ltb (childrenOf pool n (s .node)) 2) (refused 2)
+    (pick (ltb 2 (childrenOf pool n (s .node))) (emptied (s .at) i)
+    (pick (ltb (otherChild pool n (s .node) (s .at)) 16)
+    (mergeWith pool n s i (childAt pool n (s .node) (otherChild pool n (s .node) (s .at))))
+    (refused 2)))
+
+-- the number of a walk that ended at no leaf: 3 key absent, 2 damage met
+abbrev pub missOf : End → ℕ
+missOf (AtLeaf s i) = 2
+missOf (AtEmpty s) = 3
+missOf (Stopped s j b) = 2
+missOf (Damaged m) = 2
+
+-- "Delete of a found key: 1. The leaf is the root: root becomes 0."
+abbrev pub deleteAt : List ℕ → ℕ → ℕ → End → Decided
+deleteAt pool n k (AtLeaf s i) =
+    pick (eqb (keyAt pool i) k)
+    (pick (eqb (s .nodes) 0) (emptied (s .at) i) (unlinkOf pool n s i))
+    (refused 3)
+deleteAt pool n k (AtEmpty s) = refused (missOf (AtEmpty s))
+deleteAt pool n k (Stopped s j b) = refused (missOf (Stopped s j b))
+deleteAt pool n k (Damaged m) = refused (missOf (Damaged m))
+
+abbrev pub deleteIn : List ℕ → ℕ → Size → Decided
+deleteIn pool k (Holds n) = deleteAt pool n k (walkOf pool n k)
+deleteIn pool k Wrong = refused 1
+
+unfoldable pub deletePlan : List ℕ → ℕ → Decided
+deletePlan pool k = deleteIn pool k (capacityOf pool)

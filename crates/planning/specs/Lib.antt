@@ -1,0 +1,4 @@
+pub mod Puts
+pub mod Leads
+pub mod Deletes
+pub mod Removals

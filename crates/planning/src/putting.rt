@@ -1,0 +1,158 @@
+// Planning a put.
+ghost use mathlib.Core.Path.{_≡_};
+ghost use Prim.Native.Nat.{ℕ, _+_, _-_, _*_, _<_, _≤_};
+ghost use lib.ListN.{length};
+ghost use Rattle.pool.specs.Sizes.{Sized, bytesOf};
+ghost use Rattle.plan.specs.Plans.{plannedOf};
+ghost use Rattle.walk.specs.Walks.{walkOf};
+ghost use Rattle.planning.specs.Puts.{replaced, cleftAt, besideOf, leafPut, emptyPut, putAt, putPlan};
+ghost use Rattle.planning.specs.Leads.{planAt, Able, Leads};
+use crate::splitting::Cleft;
+use crate::splitting::Target;
+use crate::splitting::grow;
+use crate::splitting::split;
+use digits::Header;
+use plan::Effect;
+use plan::Plan;
+use plan::Planned;
+use pool::Size;
+use walk::End;
+use walk::Lowest;
+use walk::Spot;
+
+// One store: the value of leaf i, whose key is found.
+fn replace(i: usize, value: u64) -> Planned
+    requires { ⌜ i < 1024 ⌝ }
+    ensures { λ r. ⌜ r ≡ plannedOf (replaced i value) ⌝ }
+{
+    let mut words = [0usize; 21];
+    let mut values = [0u64; 21];
+    words[0] = pool::leaf_word(i) + 1;
+    values[0] = value;
+    Planned {
+        number: 0,
+        plan: Plan {
+            words,
+            values,
+            count: 1,
+            effect: Effect::Nothing,
+        },
+    }
+}
+
+// The cleft at a spot of the walk.
+fn cleft(pool: &[u64], s: Spot, near: u64, diff: usize) -> Cleft
+    requires { ⌜ s .at < length (now pool) ⌝ }
+    ensures { λ r. ⌜ r ≡ cleftAt (now (pool .entry)) near diff s ⌝ }
+{
+    let at = s.at;
+    Cleft {
+        at,
+        depth: s.depth,
+        old: pool[at],
+        near,
+        diff,
+    }
+}
+
+// Where a put goes: leaf i, which holds the key; an empty reference; a reference that is split; or nowhere, with a number.
+pub enum Place {
+    Held(usize),
+    Gap(usize),
+    Apart(Cleft, Target),
+    Refused(u64),
+}
+
+// The place beside another key, `near`: at the first node of the walk that branches at or past the first digit in which they differ. Where the
+// walk ended at an empty child, `last` is the number of nodes that it passed and `gap` the word of that child, else last is 0.
+fn beside(pool: &[u64], n: usize, key: u64, last: usize, gap: usize, near: u64) -> Place
+    requires { ⌜ Sized (now pool) n ⌝ }
+    ensures { λ r. ⌜ Leads n key r (λ map v. besideOf (now (pool .entry)) map n key v last gap near) ⌝ }
+{
+    let f = digits::first_diff(key, near);
+    if f == Header::DIGITS {
+        return Place::Refused(2);
+    }
+    let end = walk::walk_to(pool, n, key, f);
+    if let End::AtLeaf(s, _) = end {
+        return Place::Apart(cleft(pool, s, near, f), Target::ALeaf);
+    }
+    let End::Stopped(s, j, b) = end else {
+        return Place::Refused(2);
+    };
+    if b != f {
+        return Place::Apart(cleft(pool, s, near, f), Target::ANode(j, b));
+    }
+    if s.nodes + 1 != last {
+        return Place::Refused(2);
+    }
+    Place::Gap(gap)
+}
+
+// The walk ended at leaf i.
+fn beside_leaf(pool: &[u64], n: usize, key: u64, i: usize) -> Place
+    requires { ⌜ Sized (now pool) n × (i < n) ⌝ }
+    ensures { λ r. ⌜ Leads n key r (λ map v. leafPut (now (pool .entry)) map n key v i) ⌝ }
+{
+    let near = pool::leaf_key(pool, n, i);
+    if near == key {
+        return Place::Held(i);
+    }
+    beside(pool, n, key, 0, 0, near)
+}
+
+// The walk ended at an empty reference.
+fn beside_empty(pool: &[u64], n: usize, key: u64, s: Spot) -> Place
+    requires { ⌜ Sized (now pool) n × (s .over < length (now pool)) × (s .above ≤ 16) ⌝ }
+    ensures { λ r. ⌜ Leads n key r (λ map v. emptyPut (now (pool .entry)) map n key v s) ⌝ }
+{
+    if s.nodes == 0 {
+        return Place::Gap(s.at);
+    }
+    let over = s.over;
+    let Lowest::Key(near) = walk::lowest_leaf(pool, n, s.above, pool[over]) else {
+        return Place::Refused(2);
+    };
+    beside(pool, n, key, s.nodes, s.at, near)
+}
+
+// Where a put goes. Every question of damage is settled here, before room is looked for.
+pub fn find_place(pool: &[u64], n: usize, key: u64) -> Place
+    requires { ⌜ Sized (now pool) n ⌝ }
+    ensures { λ r. ⌜ Leads n key r (λ map v. putAt (now (pool .entry)) map n key v (walkOf (now (pool .entry)) n key)) ⌝ }
+{
+    let end = walk::walk(pool, n, key);
+    if let End::AtLeaf(_, i) = end {
+        return beside_leaf(pool, n, key, i);
+    }
+    let End::AtEmpty(s) = end else {
+        return Place::Refused(2);
+    };
+    beside_empty(pool, n, key, s)
+}
+
+// What a put stores at a place.
+fn plan_at(map: &[u8], n: usize, key: u64, value: u64, place: Place) -> Planned
+    requires { ⌜ (1 ≤ n) × (n ≤ 1024) × (length (now map) ≡ bytesOf n) × Able n place ⌝ }
+    ensures { λ r. ⌜ r ≡ plannedOf (planAt (now (map .entry)) n key value place) ⌝ }
+{
+    match place {
+        Place::Held(i) => replace(i, value),
+        Place::Gap(at) => grow(map, n, key, value, at),
+        Place::Apart(s, target) => split(map, n, s, key, value, target),
+        Place::Refused(number) => Planned::refused(number),
+    }
+}
+
+// What a put stores, in order.
+pub fn plan_put(pool: &[u64], map: &[u8], key: u64, value: u64) -> Planned
+    ensures { λ r. ⌜ r ≡ plannedOf (putPlan (now (pool .entry)) (now (map .entry)) key value) ⌝ }
+{
+    let Size::Holds(n) = pool::capacity(pool) else {
+        return Planned::refused(1);
+    };
+    if map.len() != 2 * n - 1 {
+        return Planned::refused(1);
+    }
+    plan_at(map, n, key, value, find_place(pool, n, key))
+}
