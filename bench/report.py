@@ -5,7 +5,9 @@ Usage: report.py BENCH.TSV DIRECTORY
 
 import math
 import pathlib
+import os
 import sys
+import time
 
 NAMES = {"wort": "this library", "plain": "plain C", "judy": "JudyL", "btree": "BTreeMap", "lmdb": "LMDB"}
 SHAPES = ["dense", "sparse", "clustered"]
@@ -145,11 +147,17 @@ def noise_line(figures):
     return ", ".join(f"{operation} {noise(figures, operation):.2f}" for operation in TO_PLAIN)
 
 
+def toolchain():
+    """The toolchain that the project is pinned to, by the first word of its file."""
+    with open(os.path.join(os.path.dirname(os.path.abspath(__file__)), "../tools/toolchain")) as file:
+        return file.read().split()[0]
+
+
 def page(figures):
     return f"""# Times and costs
 
-Written by `make bench`. All were measured side by side in one run: medians of 201 rounds, each from an empty table to an
-empty table, the order of the contenders changing with each round. **The ratios hold; the absolute times do not**: they are of
+Written by `make bench` on {time.strftime("%Y-%m-%d")}, with {toolchain()}. All were measured side by side in one run: medians of 201 rounds, each from
+an empty table to an empty table, the order of the contenders changing with each round. **The ratios hold; the absolute times do not**: they are of
 one machine at one moment, with other work beside.
 
 ![Times as ratios to plain C](bench.svg)

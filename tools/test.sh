@@ -31,4 +31,6 @@ if ! rt staticlib wort || ! (cd host && cargo test --release --locked --offline)
     echo "The library and the model differ, or the tests do not build: see above." >&2
     exit 1
 fi
+part "pictures and the walk-through, as the library does it"
+tools/pictures.py --check
 tail -n 1 build/ci.log
