@@ -2,7 +2,7 @@
 -- Assumes nothing.
 use mathlib.Core.Path.{_≡_, refl, sym, _∙_}
 use mathlib.Core.List.{List, [], _∷_}
-use Prim.Native.Nat.{ℕ, _+_, _≤_, _<_}
+use Prim.Native.Nat.{ℕ, _+_, _-_, _≤_, _<_}
 use native.Mathlib.Omega.{arith}
 use borrow.Author.Tests.{eq-eqb, ne-eqb}
 use types.Run.{OneOf, miss}
@@ -23,7 +23,7 @@ use Rattle.walk.specs.declared.End.the-variants.{AtLeaf, AtEmpty, Stopped, Dama
 use Rattle.walk.specs.declared.Lowest.{Lowest}
 use Rattle.walk.specs.declared.Lowest.the-variants.{Key, NoKey}
 use Rattle.walk.proofs.End.{the-type}
-use Rattle.walk.proofs.Ends.{walk-inside}
+use Rattle.walk.proofs.Ends.{walk-inside, Stops, walk-last}
 use Rattle.plan.specs.Plans.{Decided, refused}
 use Rattle.planning.specs.declared.splitting.Cleft.{Cleft}
 use Rattle.planning.specs.declared.splitting.Target.the-variants.{ALeaf, ANode}
@@ -137,6 +137,15 @@ module _ (pool : List ℕ) (n k : ℕ) (s : Spot) where
 
     pub key-below : {k2 : ℕ} {p : Place} → r ≡ Key k2 → Leads n k p (λ map v. besideOf pool map n k v (s .nodes) (s .at) k2) → Leads n k p (λ map v. emptyPut pool map n k v s)
     key-below q b = record { able = b .able; plans = λ map v. rw (ne-eqb (s .nodes) 0 h, ← lowest, q) (b .plans map v) }
+
+    -- the keys part where the last node branches: the second walk would stop before it
+    pub gap-below : Sized pool n → walkOf pool n k ≡ AtEmpty s → s .depth ≤ 16 → {k2 f : ℕ} → r ≡ Key k2 → f ≡ firstDiff k k2 → f + 1 ≡ s .depth
+        → Leads n k (Gap (s .at)) (λ map v. emptyPut pool map n k v s)
+    gap-below z w d {f = f} q first e =
+        let l : Stops pool n k s = walk-last pool n k w h in
+        let b : s .depth - 1 ≡ f = omega arith in
+        key-below q
+        (gap-there (record { sized = z; first = first; differ = λ x. omega arith; walks = rw b at (l .stopped) }) (s .nodes) (s .at) refl refl (l .nodes≡))
 
 -- ---- by where the walk ends
 module _ (pool : List ℕ) (n k : ℕ) {e : End} (walks : e ≡ walkOf pool n k) where

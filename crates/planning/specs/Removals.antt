@@ -2,11 +2,13 @@
 -- Assumes nothing.
 use mathlib.Core.List.{[], _∷_}
 use Rattle.plan.specs.Plans.{Decided, decided, refused}
+use Rattle.plan.specs.declared.Effect.the-variants.{FreesLeaf, FreesBoth}
 use Rattle.planning.specs.Puts.{store}
 use Rattle.planning.specs.declared.deleting.Removal.{Removal}
-use Rattle.planning.specs.declared.deleting.Removal.the-variants.{Refused, One, Two}
+use Rattle.planning.specs.declared.deleting.Removal.the-variants.{Refused, Emptied, Bypassed, Lifted}
 
 abbrev pub decidedBy : Removal → Decided
 decidedBy (Refused k) = refused k
-decidedBy (One word value e) = decided (store word value ∷ []) e
-decidedBy (Two word value next header e) = decided (store word value ∷ store next header ∷ []) e
+decidedBy (Emptied at leaf) = decided (store at 0 ∷ []) (FreesLeaf leaf)
+decidedBy (Bypassed at r leaf node) = decided (store at r ∷ []) (FreesBoth leaf node)
+decidedBy (Lifted at r word header leaf node) = decided (store at r ∷ store word header ∷ []) (FreesBoth leaf node)

@@ -1,9 +1,11 @@
 // Planning a delete.
 ghost use mathlib.Core.Path.{_≡_};
+ghost use mathlib.Core.List.{[], _∷_};
 ghost use Prim.Native.Nat.{ℕ, _+_, _-_, _*_, _<_, _≤_};
 ghost use lib.ListN.{length};
 ghost use Rattle.pool.specs.Sizes.{Sized, capacityOf};
 ghost use Rattle.plan.specs.Plans.{plannedOf, decided};
+ghost use Rattle.planning.specs.Puts.{store};
 ghost use Rattle.planning.specs.Removals.{decidedBy};
 ghost use Rattle.planning.specs.Deletes.{emptied, bypassed, liftIn, mergeWith, unlinkOf, missOf, deletePlan};
 use digits::Header;
@@ -17,18 +19,20 @@ use walk::Head;
 use walk::Lowest;
 use walk::Spot;
 
-// What a delete comes to: a number, or the stores of a word and its value, one or two in order, with their effect.
+// What a delete comes to: a number; a reference that is emptied, and its leaf; a reference with what it takes, and the leaf and the node that are
+// freed; or that, with a header's word and the header before them.
 pub enum Removal {
     Refused(u64),
-    One(usize, u64, Effect),
-    Two(usize, u64, usize, u64, Effect),
+    Emptied(usize, usize),
+    Bypassed(usize, u64, usize, usize),
+    Lifted(usize, u64, usize, u64, usize, usize),
 }
 
 // One store: the reference `at` to leaf i becomes 0.
 fn empty(at: usize, i: usize) -> Removal
     ensures { λ r. ⌜ decidedBy r ≡ emptied at i ⌝ }
 {
-    Removal::One(at, 0, Effect::FreesLeaf(i))
+    Removal::Emptied(at, i)
 }
 
 // One store: the reference to the leaf's node takes the other child, the leaf r.
@@ -36,7 +40,7 @@ fn bypass(n: usize, s: Spot, i: usize, r: u64) -> Removal
     requires { ⌜ (n ≤ 1024) × (s .node < 1024) ⌝ }
     ensures { λ p. ⌜ decidedBy p ≡ bypassed n s i r ⌝ }
 {
-    Removal::One(s.over, r, Effect::FreesBoth(i, n + s.node))
+    Removal::Bypassed(s.over, r, i, n + s.node)
 }
 
 // Two stores: the reference to the leaf's node takes the other child, node j, whose header follows.
@@ -53,7 +57,7 @@ fn lift(pool: &[u64], n: usize, s: Spot, i: usize, r: u64, j: usize) -> Removal
     let at = pool::node_word(n, j);
     let header = Header::pack(s.above, b - s.above, near);
     // The reference first: from here the key is gone, and the child's header is stale, which every walk accepts.
-    Removal::Two(s.over, r, at, header, Effect::FreesBoth(i, n + s.node))
+    Removal::Lifted(s.over, r, at, header, i, n + s.node)
 }
 
 // The leaf's node has one other child, r.
@@ -119,41 +123,58 @@ pub fn find_removal(pool: &[u64], n: usize, key: u64) -> Removal
     unlink(pool, n, s, i)
 }
 
+// A plan of one store.
+fn lay_one(word: usize, value: u64, effect: Effect) -> Planned
+    ensures { λ p. ⌜ p ≡ plannedOf (decided (store word value ∷ []) effect) ⌝ }
+{
+    let mut words = [0usize; 21];
+    let mut values = [0u64; 21];
+    words[0] = word;
+    values[0] = value;
+    Planned {
+        number: 0,
+        plan: Plan {
+            words,
+            values,
+            count: 1,
+            effect,
+        },
+    }
+}
+
+// A plan of two stores.
+fn lay_two(word: usize, value: u64, next: usize, header: u64, effect: Effect) -> Planned
+    ensures { λ p. ⌜ p ≡ plannedOf (decided (store word value ∷ store next header ∷ []) effect) ⌝ }
+{
+    let mut words = [0usize; 21];
+    let mut values = [0u64; 21];
+    words[0] = word;
+    values[0] = value;
+    words[1] = next;
+    values[1] = header;
+    Planned {
+        number: 0,
+        plan: Plan {
+            words,
+            values,
+            count: 2,
+            effect,
+        },
+    }
+}
+
 // A removal's stores as a plan.
 fn lay(r: Removal) -> Planned
     ensures { λ p. ⌜ p ≡ plannedOf (decidedBy r) ⌝ }
 {
-    let mut words = [0usize; 21];
-    let mut values = [0u64; 21];
     match r {
         Removal::Refused(number) => Planned::refused(number),
-        Removal::One(word, value, effect) => {
-            words[0] = word;
-            values[0] = value;
-            Planned {
-                number: 0,
-                plan: Plan {
-                    words,
-                    values,
-                    count: 1,
-                    effect,
-                },
-            }
+        Removal::Emptied(at, leaf) => lay_one(at, 0, Effect::FreesLeaf(leaf)),
+        Removal::Bypassed(at, child, leaf, node) => {
+            lay_one(at, child, Effect::FreesBoth(leaf, node))
         }
-        Removal::Two(word, value, next, header, effect) => {
-            words[0] = word;
-            values[0] = value;
-            words[1] = next;
-            values[1] = header;
-            Planned {
-                number: 0,
-                plan: Plan {
-                    words,
-                    values,
-                    count: 2,
-                    effect,
-                },
-            }
+        Removal::Lifted(at, child, word, header, leaf, node) => {
+            lay_two(at, child, word, header, Effect::FreesBoth(leaf, node))
         }
     }
 }

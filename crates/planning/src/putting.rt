@@ -103,7 +103,7 @@ fn beside_leaf(pool: &[u64], n: usize, key: u64, i: usize) -> Place
 
 // The walk ended at an empty reference.
 fn beside_empty(pool: &[u64], n: usize, key: u64, s: Spot) -> Place
-    requires { ⌜ Sized (now pool) n × (s .over < length (now pool)) × (s .above ≤ 16) ⌝ }
+    requires { ⌜ Sized (now pool) n × (walkOf (now pool) n key ≡ End.AtEmpty s) × (s .over < length (now pool)) × (s .above ≤ 16) × (s .depth ≤ 16) ⌝ }
     ensures { λ r. ⌜ Leads n key r (λ map v. emptyPut (now (pool .entry)) map n key v s) ⌝ }
 {
     if s.nodes == 0 {
@@ -113,6 +113,10 @@ fn beside_empty(pool: &[u64], n: usize, key: u64, s: Spot) -> Place
     let Lowest::Key(near) = walk::lowest_leaf(pool, n, s.above, pool[over]) else {
         return Place::Refused(2);
     };
+    // The last node branches where the keys part: no second walk need find it.
+    if digits::first_diff(key, near) + 1 == s.depth {
+        return Place::Gap(s.at);
+    }
     beside(pool, n, key, s.nodes, s.at, near)
 }
 

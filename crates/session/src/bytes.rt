@@ -51,7 +51,7 @@ fn has_room(out: &[u8], at: usize) -> bool
     at <= out.len() - MOST
 }
 
-// Takes bytes of the input as long as an empty page that fills has room for any answer.
+// Takes bytes of the input as long as the page, which is empty at the start, has room for what any turn prints.
 pub fn run(
     reader: Reader,
     input: &[u8],

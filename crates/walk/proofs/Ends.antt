@@ -1,9 +1,11 @@
 -- Where a walk ends: inside the pool, after at most 16 nodes; stopped only before a node at or past `stop`, and else where the plain walk ends.
 -- Assumes nothing.
-use mathlib.Core.Path.{_≡_, refl}
+use mathlib.Core.Path.{_≡_, refl, sym, ap, _∙_}
+use mathlib.Core.Logic.{_⊎_, inl, inr, ⊎-elim}
 use mathlib.Core.List.{List}
-use Prim.Native.Nat.{ℕ, _≤_, _<_}
+use Prim.Native.Nat.{ℕ, _+_, _-_, _≤_, _<_}
 use native.Mathlib.Omega.{arith}
+use Rattle.digits.specs.Digits.{digitOf}
 use Rattle.digits.proofs.Digits.{digit-lt}
 use Rattle.pool.specs.Sizes.{Sized}
 use Rattle.pool.specs.Places.{wordAt}
@@ -95,3 +97,81 @@ pub walk-whole : (pool : List ℕ) (n key stop : ℕ) {e : End} → e ≡ walkTo
 walk-whole pool n key stop {e} q u =
     let w : Walks pool n key stop root e = rw q (walk-has-end pool n key stop 17 root (omega arith) (omega arith)) in
     walk-one-end pool n key 16 (no-stop w u) 17 (omega arith) (omega arith)
+
+-- ---- the last node of a walk that ended at an empty reference
+abbrev IsEmpty : End → Type 0
+IsEmpty (AtLeaf s i) = ⊥
+IsEmpty (AtEmpty s) = Unit {0}
+IsEmpty (Stopped s j b) = ⊥
+IsEmpty (Damaged m) = ⊥
+
+abbrev spotOf : End → Spot
+spotOf (AtLeaf s i) = s
+spotOf (AtEmpty s) = s
+spotOf (Stopped s j b) = s
+spotOf (Damaged m) = root
+
+is-empty : {e : End} {t : Spot} → e ≡ AtEmpty t → IsEmpty e
+is-empty p = rw p tt
+
+empty-end : {s t : Spot} (r : Ref) → endOf s r ≡ AtEmpty t → s ≡ t
+empty-end Empty p = ap spotOf p
+empty-end (Leaf i) p = absurd (is-empty p)
+empty-end (Node j) p = absurd (is-empty p)
+empty-end Bad p = absurd (is-empty p)
+
+-- from s a walk that is to stop where the last node before t branches does stop there
+pub record Last (pool : List ℕ) (n key : ℕ) (s t : Spot) : Type 0 where
+  pub spot : Spot
+  pub node : ℕ
+  pub deeper : s .depth < t .depth
+  pub stopped : Walks pool n key (t .depth - 1) s (Stopped spot node (t .depth - 1))
+  pub nodes≡ : spot .nodes + 1 ≡ t .nodes
+
+module _ {pool : List ℕ} {n key : ℕ} {t : Spot} where
+  last-before : {s : Spot} {j b : ℕ} → Accepted pool n (s .depth) (wordAt pool (s .at)) j b → below n j b (digitOf key b) s ≡ t → Last pool n key s t
+  last-before {s} {j} {b} a e =
+      let d : b + 1 ≡ t .depth = ap (λ (u : Spot). u .depth) e in
+      let f : t .depth - 1 ≡ b = omega arith in
+      record {
+        spot = s;
+        node = j;
+        deeper = omega (arith, a .w≤b);
+        stopped = stops j b a (omega arith) (ap (Stopped s j) f);
+        nodes≡ = ap (λ (u : Spot). u .nodes) e;
+      }
+
+  last-further : {s : Spot} {j b : ℕ} → Accepted pool n (s .depth) (wordAt pool (s .at)) j b → Last pool n key (below n j b (digitOf key b) s) t → Last pool n key s t
+  last-further {s} {j} {b} a l =
+      record {
+        spot = l .spot;
+        node = l .node;
+        deeper = omega (arith, l .deeper, a .w≤b);
+        stopped = goes j b a (omega (arith, l .deeper)) (l .stopped);
+        nodes≡ = l .nodes≡;
+      }
+
+  last-node : {s : Spot} {e : End} → Walks pool n key 16 s e → e ≡ AtEmpty t → (s ≡ t) ⊎ Last pool n key s t
+  last-node (ends r e w h q) p = inl (empty-end r (sym q ∙ p))
+  last-node (damaged j a q) p = absurd (is-empty (sym q ∙ p))
+  last-node (stops j b a l q) p = absurd (is-empty (sym q ∙ p))
+  last-node {s} (goes j b a l w) p = inr (⊎-elim (last-before a) (last-further a) (last-node w p))
+
+-- a walk that ended at an empty reference, past some node: one that is to stop where the last of them branches stops before it
+pub record Stops (pool : List ℕ) (n key : ℕ) (t : Spot) : Type 0 where
+  pub spot : Spot
+  pub node : ℕ
+  pub stopped : Stopped spot node (t .depth - 1) ≡ walkTo pool n key (t .depth - 1)
+  pub nodes≡ : spot .nodes + 1 ≡ t .nodes
+
+pub walk-last : (pool : List ℕ) (n key : ℕ) {t : Spot} → walkOf pool n key ≡ AtEmpty t → (t .nodes ≡ 0 → ⊥) → Stops pool n key t
+walk-last pool n key {t} q h = go (last-node (walk-has-end pool n key 16 17 root (omega arith) (omega arith)) q)
+  where
+    go : (root ≡ t) ⊎ Last pool n key root t → Stops pool n key t
+    go (inl e) = absurd (h (ap (λ (u : Spot). u .nodes) (sym e)))
+    go (inr l) = record {
+      spot = l .spot;
+      node = l .node;
+      stopped = walk-one-end pool n key (t .depth - 1) (l .stopped) 17 (omega arith) (omega arith);
+      nodes≡ = l .nodes≡;
+    }

@@ -149,18 +149,26 @@ pub fn remove(pool: &mut [u64], map: &mut [u8], removal: Removal) -> Done
 {
     match removal {
         Removal::Refused(number) => Done { number, stores: 0 },
-        Removal::One(word, value, effect) => {
-            plan::store(pool, word, value);
-            plan::take_effect(map, effect);
+        Removal::Emptied(at, leaf) => {
+            plan::store(pool, at, 0);
+            plan::take_effect(map, Effect::FreesLeaf(leaf));
             Done {
                 number: 0,
                 stores: 1,
             }
         }
-        Removal::Two(word, value, next, header, effect) => {
-            plan::store(pool, word, value);
-            plan::store(pool, next, header);
-            plan::take_effect(map, effect);
+        Removal::Bypassed(at, child, leaf, node) => {
+            plan::store(pool, at, child);
+            plan::take_effect(map, Effect::FreesBoth(leaf, node));
+            Done {
+                number: 0,
+                stores: 1,
+            }
+        }
+        Removal::Lifted(at, child, word, header, leaf, node) => {
+            plan::store(pool, at, child);
+            plan::store(pool, word, header);
+            plan::take_effect(map, Effect::FreesBoth(leaf, node));
             Done {
                 number: 0,
                 stores: 2,

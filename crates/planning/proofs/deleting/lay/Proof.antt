@@ -12,35 +12,32 @@ refused-requires c κs = search needs
 enum-known-r-2 : tie.Need-enum-known-r-2
 enum-known-r-2 c = search needs
 
-array-write-words : tie.Need-array-write-words
-array-write-words c = search needs
-
-array-write-values : tie.Need-array-write-values
-array-write-values c = search needs
+lay-one-requires : tie.Need-lay-one-requires
+lay-one-requires c κs = search needs
 
 enum-known-r-3 : tie.Need-enum-known-r-3
 enum-known-r-3 c = search needs
 
-array-write-words-2 : tie.Need-array-write-words-2
-array-write-words-2 c = search needs
+lay-one-requires-2 : tie.Need-lay-one-requires-2
+lay-one-requires-2 c κs = search needs
 
-array-write-values-2 : tie.Need-array-write-values-2
-array-write-values-2 c = search needs
+enum-known-r-4 : tie.Need-enum-known-r-4
+enum-known-r-4 c = search needs
 
-array-write-words-3 : tie.Need-array-write-words-3
-array-write-words-3 c = search needs
-
-array-write-values-3 : tie.Need-array-write-values-3
-array-write-values-3 c = search needs
+lay-two-requires : tie.Need-lay-two-requires
+lay-two-requires c κs = search needs
 
 returns : tie.Need-returns
 returns c = rw (c .before .before .r .given .1) (c .refused .ensures)
 
 returns-2 : tie.Need-returns-2
-returns-2 c = rw (c .before .r2 .given .1)
+returns-2 c = rw (c .before .before .r2 .given .1) (c .lay-one .ensures)
 
 returns-3 : tie.Need-returns-3
-returns-3 c = rw (c .before .r3 .given .1)
+returns-3 c = rw (c .before .before .r3 .given .1) (c .lay-one2 .ensures)
+
+returns-4 : tie.Need-returns-4
+returns-4 c = rw (c .before .before .r4 .given .1) (c .lay-two .ensures)
 
 pub lay-spec : {M : Type 1} → statement M
 lay-spec =
@@ -49,13 +46,12 @@ lay-spec =
     enum-known-r
     refused-requires
     enum-known-r-2
-    array-write-words
-    array-write-values
+    lay-one-requires
     enum-known-r-3
-    array-write-words-2
-    array-write-values-2
-    array-write-words-3
-    array-write-values-3
+    lay-one-requires-2
+    enum-known-r-4
+    lay-two-requires
     returns
     returns-2
-    returns-3)
+    returns-3
+    returns-4)

@@ -1,6 +1,8 @@
 -- `beside_empty`: the root is empty, or the key goes beside the lowest leaf of the walk's last node. Assumes nothing.
+use native.Mathlib.Omega.{arith}
+use Rattle.digits.proofs.Digits.{first-diff-le}
+use Rattle.planning.proofs.Puts.{root-empty, no-key-below, key-below, gap-below}
 use borrow.Author.Needs.{needs}
-use Rattle.planning.proofs.Puts.{root-empty, no-key-below, key-below}
 use Rattle.planning.proofs.putting.beside_empty.Statement.{statement}
 use Rattle.planning.proofs.putting.beside_empty.Tie as tie
 
@@ -23,18 +25,23 @@ enum-told : tie.Need-enum-told
 enum-told c = search needs
 
 returns-2 : tie.Need-returns-2
-returns-2 c =
-    let i = c .before .before .before .before in
-    no-key-below (i .before .before .before .args .pool .now) _ _ _ (i .if1 .left) (c .before .before .lowest-leaf .ensures) (c .enum-told .given .1)
+returns-2 c = no-key-below (c .before .before .before .before .before .before .before .args .pool .now) _ _ _ (c .before .before .before .before .if1 .left) (c .before .before .lowest-leaf .ensures) (c .enum-told .given .1)
+
+first-diff-requires : tie.Need-first-diff-requires
+first-diff-requires c κs = search needs
+
+add-if2 : tie.Need-add-if2
+add-if2 c = omega (arith, c .first-diff .ensures, first-diff-le (c .before .before .before .before .before .before .before .before .before .args .key) (c .before .before .near .given .0 .0) 16)
+
+returns-3 : tie.Need-returns-3
+returns-3 c = let s = c .before .before .before .before .before .before .before .before .before .before .before in
+    gap-below (s .args .pool .now) _ _ (s .args .s) (c .before .before .before .before .before .before .before .before .if1 .left) (c .before .before .before .before .before .before .lowest-leaf .ensures) (s .pre .0) (s .pre .1) (s .pre .4) (c .before .before .before .before .near .given .1) (c .before .before .first-diff .ensures) (c .if2 .taken)
 
 beside-requires : tie.Need-beside-requires
 beside-requires c κs = search needs
 
-returns-3 : tie.Need-returns-3
-returns-3 c =
-    let k = c .before .before in
-    let i = k .before .before .before .before in
-    key-below (i .before .before .before .args .pool .now) _ _ _ (i .if1 .left) (k .before .before .lowest-leaf .ensures) (k .near .given .1) (c .beside .ensures)
+returns-4 : tie.Need-returns-4
+returns-4 c = key-below (c .before .before .before .before .before .before .before .before .before .before .before .before .args .pool .now) _ _ _ (c .before .before .before .before .before .before .before .before .before .if1 .left) (c .before .before .before .before .before .before .before .lowest-leaf .ensures) (c .before .before .before .before .before .near .given .1) (c .beside .ensures)
 
 pub beside-empty-spec : {M : Type 1} → statement M
 beside-empty-spec =
@@ -47,5 +54,8 @@ beside-empty-spec =
     enum-known-near
     enum-told
     returns-2
+    first-diff-requires
+    add-if2
+    returns-3
     beside-requires
-    returns-3)
+    returns-4)

@@ -30,9 +30,10 @@ returns-2 c = ends-damaged (c .before .before .before .before .args .pool .now) 
 beside-empty-requires : tie.Need-beside-empty-requires
 beside-empty-requires c κs =
     let z = c .before .before .before .before .before .before .pre in
-    let i = walk-inside z _ 16 (sym (c .before .end2 .given .1) ∙ c .before .before .before .before .walk .ensures) .inside in
+    let e = sym (c .before .end2 .given .1) ∙ c .before .before .before .before .walk .ensures in
+    let i = walk-inside z _ 16 e .inside in
     let o = over-inside z i in
-    (z, o .0, omega arith)
+    (z, sym e, o .0, omega arith, i .depth≤)
 
 returns-3 : tie.Need-returns-3
 returns-3 c =

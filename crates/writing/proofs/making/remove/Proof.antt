@@ -1,4 +1,5 @@
 -- `remove` makes the stores of each kind of removal. Assumes nothing.
+use Rattle.plan.specs.declared.Effect.the-variants.{FreesLeaf, FreesBoth}
 use Rattle.writing.proofs.Makings.{whole-none, one-made, two-made}
 use borrow.Author.Needs.{needs}
 use Rattle.writing.proofs.making.remove.Statement.{statement}
@@ -22,11 +23,20 @@ enum-known-removal-3 c = search needs
 store-requires-2 : tie.Need-store-requires-2
 store-requires-2 c κs = search needs
 
+take-effect-requires-2 : tie.Need-take-effect-requires-2
+take-effect-requires-2 c κs = search needs
+
+enum-known-removal-4 : tie.Need-enum-known-removal-4
+enum-known-removal-4 c = search needs
+
 store-requires-3 : tie.Need-store-requires-3
 store-requires-3 c κs = search needs
 
-take-effect-requires-2 : tie.Need-take-effect-requires-2
-take-effect-requires-2 c κs = search needs
+store-requires-4 : tie.Need-store-requires-4
+store-requires-4 c κs = search needs
+
+take-effect-requires-3 : tie.Need-take-effect-requires-3
+take-effect-requires-3 c κs = search needs
 
 returns : tie.Need-returns
 returns c = rw (c .before .removal .given .1) (whole-none _ _ _)
@@ -38,7 +48,7 @@ same-length-2 : tie.Need-same-length-2
 same-length-2 c = search needs
 
 returns-2 : tie.Need-returns-2
-returns-2 c = rw (c .before .before .before .before .before .before .before .before .before .removal2 .given .1) (one-made _ (c .before .before .before .before .before .before .before .before .before .before .before .before .before .args .map .now) _ _ (c .before .before .before .before .before .before .before .before .before .removal2 .given .0 .1 .1 .0) (c .before .before .before .before .before .before .store .ensures) (c .before .before .take-effect .ensures))
+returns-2 c = rw (c .before .before .before .before .before .before .before .before .before .removal2 .given .1) (one-made _ (c .before .before .before .before .before .before .before .before .before .before .before .before .before .args .map .now) _ _ (FreesLeaf (c .before .before .before .before .before .before .before .before .before .removal2 .given .0 .1 .0)) (c .before .before .before .before .before .before .store .ensures) (c .before .before .take-effect .ensures))
 
 same-length-3 : tie.Need-same-length-3
 same-length-3 c = search needs
@@ -47,7 +57,18 @@ same-length-4 : tie.Need-same-length-4
 same-length-4 c = search needs
 
 returns-3 : tie.Need-returns-3
-returns-3 c = rw (c .before .before .before .before .before .before .before .before .before .before .before .before .before .removal3 .given .1) (two-made _ (c .before .before .before .before .before .before .before .before .before .before .before .before .before .before .before .before .before .args .map .now) _ _ _ _ (c .before .before .before .before .before .before .before .before .before .before .before .before .before .removal3 .given .0 .1 .1 .1 .1 .0) (c .before .before .before .before .before .before .before .before .before .before .store2 .ensures) (c .before .before .before .before .before .before .store3 .ensures) (c .before .before .take-effect2 .ensures))
+returns-3 c = let d = c .before .before .before .before .before .before .before .before .before .removal3 .given .0 in
+    rw (c .before .before .before .before .before .before .before .before .before .removal3 .given .1) (one-made _ (c .before .before .before .before .before .before .before .before .before .before .before .before .before .args .map .now) _ _ (FreesBoth (d .1 .1 .0) (d .1 .1 .1 .0)) (c .before .before .before .before .before .before .store2 .ensures) (c .before .before .take-effect2 .ensures))
+
+same-length-5 : tie.Need-same-length-5
+same-length-5 c = search needs
+
+same-length-6 : tie.Need-same-length-6
+same-length-6 c = search needs
+
+returns-4 : tie.Need-returns-4
+returns-4 c = let d = c .before .before .before .before .before .before .before .before .before .before .before .before .before .removal4 .given .0 in
+    rw (c .before .before .before .before .before .before .before .before .before .before .before .before .before .removal4 .given .1) (two-made _ (c .before .before .before .before .before .before .before .before .before .before .before .before .before .before .before .before .before .args .map .now) _ _ _ _ (FreesBoth (d .1 .1 .1 .1 .0) (d .1 .1 .1 .1 .1 .0)) (c .before .before .before .before .before .before .before .before .before .before .store3 .ensures) (c .before .before .before .before .before .before .store4 .ensures) (c .before .before .take-effect3 .ensures))
 
 pub remove-spec : {M : Type 1} → statement M
 remove-spec =
@@ -59,12 +80,18 @@ remove-spec =
     take-effect-requires
     enum-known-removal-3
     store-requires-2
-    store-requires-3
     take-effect-requires-2
+    enum-known-removal-4
+    store-requires-3
+    store-requires-4
+    take-effect-requires-3
     returns
     same-length
     same-length-2
     returns-2
     same-length-3
     same-length-4
-    returns-3)
+    returns-3
+    same-length-5
+    same-length-6
+    returns-4)
