@@ -448,7 +448,7 @@ def walkthrough(library):
     assert stale == [turn - 1] and len(retried.stores) == len(plan.stores)
     return f"""# The half-split node, store by store
 
-Made by `tools/pictures.py` from the running library: every word, answer and listing below is what the library's calls left and said. The names are those of
+Made by `tools/pictures.py` from the running library, which plans the put and makes its stores one step at a time: every word, answer and listing below is what the library's calls left and said. The names are those of
 document 01's example: {', '.join(hex(k) for k in KEYS)}, with file numbers 1 to 4. The pool has {PLACES} places ({len(pool.words)} words); what its words held before it was formatted is
 called "left over" ({hexed(LEFT_OVER)} here), and it plays no part. Keys and headers are in hexadecimal, references and file numbers in decimal. 
 ![The layout of the pool](pictures/layout.svg)

@@ -38,7 +38,7 @@ pub record Rows (T : Table) (rows : List (Entry ℕ)) : Type 0 where
 abbrev pub Names : Table → Type 0
 Names T = (k v : ℕ) → T k ≡ some v → Word k
 
--- lookup and listing answer as the table, for every name, every start and every two buffers of one length
+-- lookup and listing answer as the table, for every name, every start and every two buffers of one length that is not 0
 pub record Reads (pool : List ℕ) (T : Table) : Type 0 where
   pub lookup : (k : ℕ) → Finds (T k) (lookupOf pool k)
   pub rows : List (Entry ℕ)
