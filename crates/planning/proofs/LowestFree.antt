@@ -12,7 +12,7 @@ use lib.Dec.{eqb}
 use lib.ListN.{getD}
 use Rattle.digits.specs.Choice.{pick}
 use Rattle.digits.specs.Loops.{scan, tally}
-use Rattle.tree.proofs.Basics.{last?}
+use Rattle.tree.proofs.Basics.{Same?, same, other, same?, less?, last?}
 use Rattle.walk.proofs.Loops.{scan-here, scan-next, scan-none, scan-true, tally-true, tally-false}
 use Rattle.planning.specs.Puts.{freeFrom}
 
@@ -105,6 +105,49 @@ module _ (map : List ℕ) (i to : ℕ) where
   -- a block of k bytes of which none is free
   pub free-past : (k : ℕ) → i + k ≤ to → tally k (λ j. eqb (getD map (i + j) 0) 0) ≡ 0 → freeFrom map (i + k) to ≡ freeFrom map i to
   free-past k h e = scan-past (λ j. eqb (getD map j 0) 0) to i k h (tally-none (λ j. eqb (getD map (i + j) 0) 0) k e)
+
+  -- k bytes of which none is free, and then one that is, or the end
+  pub free-is : (k : ℕ) → i + k ≤ to → ((j : ℕ) → j < k → getD map (i + j) 0 ≡ 0 → ⊥) → (i + k < to → getD map (i + k) 0 ≡ 0) → i + k ≡ freeFrom map i to
+  free-is k h none here = go (less? (i + k) to) ∙ scan-past (λ j. eqb (getD map j 0) 0) to i k h (λ j l. ne-eqb (getD map (i + j) 0) 0 (none j l))
+    where
+      go : (i + k < to) ⊎ (to ≤ i + k) → i + k ≡ freeFrom map (i + k) to
+      go (inl l) = scan-here (λ k. eqb (getD map k 0) 0) (to - (i + k)) (i + k) (eq-eqb (getD map (i + k) 0) 0 (here l))
+      go (inr l) = scan-none (λ k. eqb (getD map k 0) 0) (to - (i + k)) (i + k) (omega arith)
+
+-- what is found before `mid` is found in a longer run too
+pub free-within : (map : List ℕ) (i mid to k : ℕ) → mid ≤ to → i + k ≡ freeFrom map i mid → i + k < mid → i + k ≡ freeFrom map i to
+free-within map i mid to k h e l =
+    free-is map i to k (omega arith) (λ j jk. free-lowest map i mid (i + j) (omega arith) (rw (← e) (omega arith)))
+    (λ z. rw (← e) at (free-found map i mid (rw (← e) l) .1))
+
+-- ---- the least number of a free byte among the first k of a block of 64, 64 for none
+abbrev pub Least : List ℕ → ℕ → ℕ → ℕ → Type 0
+Least map i k r = (r ≤ 64) × ((j : ℕ) → j < k → j < r → getD map (i + j) 0 ≡ 0 → ⊥) × (r < 64 → getD map (i + r) 0 ≡ 0)
+
+module _ (map : List ℕ) (i k r here : ℕ) (L : Least map i k r) (is : here ≡ pick (eqb (getD map (i + k) 0) 0) k 64) where
+  pub least-lower : here < r → Least map i (k + 1) here
+  least-lower h = go (same? (getD map (i + k) 0) 0)
+    where
+      go : Same? (getD map (i + k) 0) 0 → Least map i (k + 1) here
+      go (same e q) =
+          let at : here ≡ k = is ∙ rw (eq-eqb (getD map (i + k) 0) 0 e) in
+          rw at (omega (arith, L .0), λ j a b. L .1 j b (omega arith), λ z. e)
+      go (other n q) =
+          let past : here ≡ 64 = is ∙ rw (ne-eqb (getD map (i + k) 0) 0 n) in
+          absurd (omega (arith, L .0))
+
+  pub least-kept : r ≤ here → Least map i (k + 1) r
+  least-kept h = (L .0, λ j a b. go j b (same? (getD map (i + k) 0) 0) (last? j k (omega arith)), L .2)
+    where
+      go : (j : ℕ) → j < r → Same? (getD map (i + k) 0) 0 → (j ≡ k) ⊎ (j < k) → getD map (i + j) 0 ≡ 0 → ⊥
+      go j b s (inr l) = L .1 j l b
+      go j b (same e q) (inl l) =
+          let at : here ≡ k = is ∙ rw (eq-eqb (getD map (i + k) 0) 0 e) in
+          absurd (omega arith)
+      go j b (other n q) (inl l) = rw l n
+
+pub least-free : (map : List ℕ) (i r : ℕ) → Least map i 64 r → i + r ≡ freeFrom map i (i + 64)
+least-free map i r L = free-is map i (i + 64) r (omega (arith, L .0)) (λ j l. L .1 j (omega (arith, L .0)) l) (λ l. L .2 (omega arith))
 
 -- ---- one byte more of a block that is looked at
 module _ (map : List ℕ) (i k : ℕ) where

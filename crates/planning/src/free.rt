@@ -3,6 +3,7 @@ ghost use mathlib.Core.Path.{_≡_};
 ghost use Prim.Native.Nat.{ℕ, _+_, _<_, _≤_};
 ghost use lib.Dec.{eqb};
 ghost use lib.ListN.{length, getD};
+ghost use Rattle.digits.specs.Choice.{pick};
 ghost use Rattle.digits.specs.Loops.{tally};
 ghost use Rattle.planning.specs.Puts.{freeFrom};
 
@@ -40,12 +41,37 @@ fn past_full(map: &[u8], from: usize, to: usize) -> usize
     i
 }
 
-// The lowest free byte of map[from..to], or `to`.
-pub fn lowest_free(map: &[u8], from: usize, to: usize) -> usize
+// Its number for a byte that is free, the number past all for one that is not.
+fn free_or_past(byte: u8, k: usize) -> u8
+    requires { ⌜ k < 64 ⌝ }
+    ensures { λ r. ⌜ r ≡ pick (eqb byte 0) k 64 ⌝ }
+{
+    if byte == 0 { k as u8 } else { 64 }
+}
+
+// The lowest free byte of map[at..at + 64], counted from `at`, or 64. It looks at all of them too, and keeps the least of their numbers.
+fn free_in_block(map: &[u8], at: usize) -> usize
+    requires { ⌜ at + 64 ≤ length (now map) ⌝ }
+    ensures { λ r. ⌜ (r ≤ 64) × (at + r ≡ freeFrom (now (map .entry)) at (at + 64)) ⌝ }
+{
+    let mut least: u8 = 64;
+    let mut k: usize = 0;
+    while k < BLOCK {
+        let here = free_or_past(map[at + k], k);
+        if here < least {
+            least = here;
+        }
+        k += 1;
+    }
+    least as usize
+}
+
+// The lowest free byte of map[from..to], or `to`, byte by byte.
+fn free_by_byte(map: &[u8], from: usize, to: usize) -> usize
     requires { ⌜ (from ≤ to) × (to ≤ length (now map)) ⌝ }
     ensures { λ r. ⌜ r ≡ freeFrom (now (map .entry)) from to ⌝ }
 {
-    let mut i = past_full(map, from, to);
+    let mut i = from;
     while i < to {
         if map[i] == 0 {
             return i;
@@ -53,4 +79,19 @@ pub fn lowest_free(map: &[u8], from: usize, to: usize) -> usize
         i += 1;
     }
     i
+}
+
+// The lowest free byte of map[from..to], or `to`: past the full blocks, then in the next block, or in the bytes that are left.
+pub fn lowest_free(map: &[u8], from: usize, to: usize) -> usize
+    requires { ⌜ (from ≤ to) × (to ≤ length (now map)) ⌝ }
+    ensures { λ r. ⌜ r ≡ freeFrom (now (map .entry)) from to ⌝ }
+{
+    let i = past_full(map, from, to);
+    if BLOCK <= to - i {
+        let k = free_in_block(map, i);
+        if k < BLOCK {
+            return i + k;
+        }
+    }
+    free_by_byte(map, i, to)
 }

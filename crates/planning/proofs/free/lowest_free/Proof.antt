@@ -1,55 +1,46 @@
--- `lowest_free` skips full blocks, then goes byte by byte: at each turn the lowest free byte from there on is the one looked for. It rests on
--- the laws of that byte. Assumes nothing.
-use mathlib.Core.Path.{_≡_, _∙_}
-use Prim.Native.Nat.{_-_, _≤_}
+-- `lowest_free` skips the full blocks; what it finds in the next block is the lowest of the whole run. It rests on the laws of the lowest free
+-- byte. Assumes nothing.
+use mathlib.Core.Path.{_∙_}
+use Prim.Native.Nat.{_+_}
 use native.Mathlib.Omega.{arith}
 use borrow.Author.Needs.{needs}
-use Rattle.planning.specs.Puts.{freeFrom}
-use Rattle.planning.proofs.LowestFree.{free-here, free-later, free-end}
+use Rattle.planning.proofs.LowestFree.{free-within}
 use Rattle.planning.proofs.free.lowest_free.Statement.{statement}
 use Rattle.planning.proofs.free.lowest_free.Tie as tie
 
-abbrev Inv-loop : tie.InvT-loop
-Inv-loop map from to i₀ i = (i ≤ to) × (freeFrom map i to ≡ freeFrom map from to)
-
-abbrev μ-loop : tie.MeasureT-loop
-μ-loop map from to i₀ i = to - i
-
-past-full-requires : tie.Need-past-full-requires Inv-loop μ-loop
+past-full-requires : tie.Need-past-full-requires
 past-full-requires c κs = search needs
 
-loop-holds : tie.Need-loop-holds Inv-loop μ-loop
-loop-holds c = c .past-full .ensures
+sub-if1 : tie.Need-sub-if1
+sub-if1 c = search needs
 
-shared-slice-read-if1 : tie.Need-shared-slice-read-if1 Inv-loop μ-loop
-shared-slice-read-if1 c = search needs
+free-in-block-requires : tie.Need-free-in-block-requires
+free-in-block-requires c κs = search needs
 
-returns : tie.Need-returns Inv-loop μ-loop
-returns c = free-here (c .before .before .before .before .before .before .args .map .now) _ _ (c .if1 .taken) ∙ c .before .before .before .loop .inv .1
+add-result : tie.Need-add-result
+add-result c = search needs
 
-add-i : tie.Need-add-i Inv-loop μ-loop
-add-i c = search needs
+returns : tie.Need-returns
+returns c =
+    let a = c .before .before .before .before .before .args in
+    let i = c .before .before .before .past-full in
+    let k = c .before .free-in-block in
+    free-within (a .map .now) (i .result) (i .result + 64) (a .to) (k .result) (omega arith) (k .ensures .1) (omega arith) ∙ i .ensures .1
 
-loop-less : tie.Need-loop-less Inv-loop μ-loop
-loop-less c = search needs
+free-by-byte-requires : tie.Need-free-by-byte-requires
+free-by-byte-requires c κs = search needs
 
-loop-again : tie.Need-loop-again Inv-loop μ-loop
-loop-again c = (omega arith, free-later (c .before .before .before .before .before .before .args .map .now) _ _ (omega arith) (c .if1 .left) ∙ c .before .before .before .loop .inv .1)
-
-returns-2 : tie.Need-returns-2 Inv-loop μ-loop
-returns-2 c = free-end (c .before .before .before .before .args .map .now) _ _ (omega arith) ∙ c .before .loop .inv .1
+returns-2 : tie.Need-returns-2
+returns-2 c = c .free-by-byte .ensures ∙ c .before .before .past-full .ensures .1
 
 pub lowest-free-spec : {M : Type 1} → statement M
 lowest-free-spec =
     tie.close
     (tie.spec
-    Inv-loop
-    μ-loop
     past-full-requires
-    loop-holds
-    shared-slice-read-if1
+    sub-if1
+    free-in-block-requires
+    add-result
     returns
-    add-i
-    loop-less
-    loop-again
+    free-by-byte-requires
     returns-2)
