@@ -44,16 +44,18 @@ pub fn lookup(pool: &[u64], key: u64) -> Found
     let mut x = pool[1];
     let mut w: usize = 0;
     let mut nodes: usize = 0;
-    loop {
+    while pool::MOST < x {
         let r = pool::reference(n, x);
         let Ref::Node(j) = r else {
             return found_end(pool, n, key, nodes, r);
         };
-        let Head::Branch(b) = walk::accept(w, pool::header(pool, n, j)) else {
+        let at = pool::node_word(n, j);
+        let Head::Branch(b) = walk::accept(w, pool[at]) else {
             return Found::Met(nodes);
         };
-        x = pool::child(pool, n, j, digits::digit(key, b));
+        x = pool[at + 1 + digits::digit(key, b)];
         w = b + 1;
         nodes += 1;
     }
+    found_end(pool, n, key, nodes, pool::reference(n, x))
 }

@@ -98,18 +98,50 @@ walk-whole pool n key stop {e} q u =
     let w : Walks pool n key stop root e = rw q (walk-has-end pool n key stop 17 root (omega arith) (omega arith)) in
     walk-one-end pool n key 16 (no-stop w u) 17 (omega arith) (omega arith)
 
+-- ---- a walk that ended at a reference, before it came as deep as `stop`
+abbrev pub spotOf : End → Spot
+spotOf (AtLeaf s i) = s
+spotOf (AtEmpty s) = s
+spotOf (Stopped s j b) = s
+spotOf (Damaged m) = root
+
+abbrev pub Arrived : End → Type 0
+Arrived (AtLeaf s i) = Unit {0}
+Arrived (AtEmpty s) = Unit {0}
+Arrived (Stopped s j b) = ⊥
+Arrived (Damaged m) = ⊥
+
+arrived-at : {s : Spot} (r : Ref) → Arrived (endOf s r) → spotOf (endOf s r) ≡ s
+arrived-at Empty u = refl
+arrived-at (Leaf i) u = refl
+arrived-at (Node j) u = absurd u
+arrived-at Bad u = absurd u
+
+module _ {pool : List ℕ} {n key : ℕ} where
+  ends-deeper : {stop : ℕ} {s : Spot} {e : End} → Walks pool n key stop s e → Arrived e → s .depth ≤ spotOf e .depth
+  ends-deeper (ends r e w h q) u = rw (q, arrived-at r (rw q at u)) (omega arith)
+  ends-deeper (damaged j a q) u = absurd (rw q at u)
+  ends-deeper (stops j b a l q) u = absurd (rw q at u)
+  ends-deeper (goes j b a l w) u = omega (arith, ends-deeper w u, a .w≤b)
+
+  not-stopped : {stop : ℕ} {s : Spot} {e : End} → Walks pool n key 16 s e → Arrived e → spotOf e .depth ≤ stop → Walks pool n key stop s e
+  not-stopped (ends r e w h q) u d = ends r e w h q
+  not-stopped (damaged j a q) u d = damaged j a q
+  not-stopped (stops j b a l q) u d = absurd (rw q at u)
+  not-stopped (goes j b a l w) u d = goes j b a (omega (arith, ends-deeper w u)) (not-stopped w u d)
+
+-- no node that it passed branches at `stop` or past it: the walk that is to stop there ends at the same reference
+pub walk-same : (pool : List ℕ) (n key stop : ℕ) {e : End} → e ≡ walkOf pool n key → Arrived e → spotOf e .depth ≤ stop → e ≡ walkTo pool n key stop
+walk-same pool n key stop {e} q u d =
+    let w : Walks pool n key 16 root e = rw q (walk-has-end pool n key 16 17 root (omega arith) (omega arith)) in
+    walk-one-end pool n key stop (not-stopped w u d) 17 (omega arith) (omega arith)
+
 -- ---- the last node of a walk that ended at an empty reference
 abbrev IsEmpty : End → Type 0
 IsEmpty (AtLeaf s i) = ⊥
 IsEmpty (AtEmpty s) = Unit {0}
 IsEmpty (Stopped s j b) = ⊥
 IsEmpty (Damaged m) = ⊥
-
-abbrev spotOf : End → Spot
-spotOf (AtLeaf s i) = s
-spotOf (AtEmpty s) = s
-spotOf (Stopped s j b) = s
-spotOf (Damaged m) = root
 
 is-empty : {e : End} {t : Spot} → e ≡ AtEmpty t → IsEmpty e
 is-empty p = rw p tt

@@ -6,7 +6,7 @@ use mathlib.Core.List.{List, [], _∷_}
 use mathlib.Core.Logic.{⊎-elim}
 use Prim.Native.Nat.{ℕ, _+_, _<_}
 use native.Mathlib.Omega.{arith}
-use borrow.Author.Tests.{ltb-false}
+use borrow.Author.Tests.{lt-ltb, ltb-false}
 use types.Run.{OneOf}
 use denote.Enum.Declared.{tagOf}
 use lib.Dec.{ltb}
@@ -36,6 +36,16 @@ between w word = go (ltb (depthOf word) w) refl (ltb 15 (lengthOf word)) (ltb 15
     go false e true v f = tt
     go false e false true f = tt
     go false e false false f = omega (arith, ltb-false (depthOf word) w e, ltb-false 15 b f)
+
+-- a branch place over 15 is damage, whatever the length
+pub too-deep : (w word : ℕ) → 15 < depthOf word + lengthOf word → headOf w word ≡ Wrong
+unfolding headOf
+too-deep w word h = rw (lt-ltb 15 (depthOf word + lengthOf word) h) (go (ltb (depthOf word) w) (ltb 15 (lengthOf word)))
+  where
+    go : (t u : Bool) → pick t Wrong (pick u Wrong Wrong) ≡ Wrong
+    go true u = refl
+    go false true = refl
+    go false false = refl
 
 -- a reference that is to no node
 abbrev pub NoNode : Ref → Type 0

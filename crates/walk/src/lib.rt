@@ -13,7 +13,7 @@ pub enum Head {
     Wrong,
 }
 
-// A header word met at walk depth w. Depth and length are added wide: in 8 bits 250 + 10 would be 4.
+// A header word met at walk depth w. Depth and length are added wide: in 8 bits 250 + 10 would be 4. A length over 15 makes b over 15 too.
 pub fn accept(w: usize, word: u64) -> Head
     ensures { λ r. ⌜ (r ≡ headOf w word) × Between w r ⌝ }
 {
@@ -21,9 +21,6 @@ pub fn accept(w: usize, word: u64) -> Head
     let depth = h.depth;
     let length = h.length;
     if depth < w {
-        return Head::Wrong;
-    }
-    if 15 < length {
         return Head::Wrong;
     }
     let b = depth + length;
