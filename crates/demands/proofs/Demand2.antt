@@ -61,19 +61,19 @@ module _ (pool map : List ℕ) (T : Table) (r : Reading pool map T) where
     where
       fills : (k v : ℕ) → Word k → Full pool map T r k → PutIs pool (r .sound .n) (S .t) k v (putPlan pool map k v) → putPlan pool map k v .number ≡ 4
       fills k v h f (full e new all) = number-of e
-      fills k v h f (does σ s e p W n spare above) = absurd (omega (arith, spare (sym (S .table k) ∙ f .0), f .1, rows-leaves S (r .reads)))
+      fills k v h f (does o e p W n spare above) = absurd (omega (arith, spare (sym (S .table k) ∙ f .0), f .1, rows-leaves S (r .reads)))
 
       room : (k v : ℕ) → Word k → (Full pool map T r k → ⊥) → PutIs pool (r .sound .n) (S .t) k v (putPlan pool map k v) → putPlan pool map k v .number ≡ 0
       room k v h f (full e new all) = absurd (f (S .table k ∙ new, rows-leaves S (r .reads) ∙ all))
-      room k v h f (does σ s e p W n spare above) = number-of p
+      room k v h f (does o e p W n spare above) = number-of p
 
       lacks : (k : ℕ) → T k ≡ none → DeleteIs pool (r .sound .n) (S .t) k (deletePlan pool k) → deletePlan pool k .number ≡ 3
       lacks k g (absent e new) = number-of e
-      lacks k g (deletes s ρ e v p W n found above) = let q : _≡_ {A = Option ℕ} none (some v) = sym g ∙ S .table k ∙ found in let z : _≡_ {A = ℕ} 0 1 = cc in absurd (omega arith)
+      lacks k g (deletes o e v p W n found above) = let q : _≡_ {A = Option ℕ} none (some v) = sym g ∙ S .table k ∙ found in let z : _≡_ {A = ℕ} 0 1 = cc in absurd (omega arith)
 
       held : (k v : ℕ) → T k ≡ some v → DeleteIs pool (r .sound .n) (S .t) k (deletePlan pool k) → deletePlan pool k .number ≡ 0
       held k v g (absent e new) = let q : _≡_ {A = Option ℕ} (some v) none = sym g ∙ S .table k ∙ new in let z : _≡_ {A = ℕ} 0 1 = cc in absurd (omega arith)
-      held k v g (deletes s ρ e v′ p W n found above) = number-of p
+      held k v g (deletes o e v′ p W n found above) = number-of p
 
 pub demand2-holds : Demand2Holds
 demand2-holds = ((λ pool map s words E. sound-reads pool map s E words), demand2)

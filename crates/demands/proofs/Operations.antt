@@ -123,9 +123,9 @@ module _ {n : ℕ} {pool bytes : List ℕ} {T : Table} (S : State n pool (some b
     where
       go : PutIs pool n t k v (putPlan pool bytes k v) → Turns (put k v h) n pool t T (putPlan pool bytes k v)
       go (full e new all) = let q : _≡_ {A = ℕ} 4 0 = sym (ap (λ (d : Decided). d .number) e) ∙ z in absurd (omega arith)
-      go (does σ s e p W frees-none room above) = record {
-        before = σ;
-        switch = s;
+      go (does o e p W frees-none room above) = record {
+        before = o .first;
+        switch = o .last;
         rest = [];
         marks = e;
         plan = p;
@@ -144,10 +144,10 @@ module _ {n : ℕ} {pool bytes : List ℕ} {T : Table} (S : State n pool (some b
     where
       go : DeleteIs pool n t k (deletePlan pool k) → Turns (delete k h) n pool t T (deletePlan pool k)
       go (absent e gone) = let q : _≡_ {A = ℕ} 3 0 = sym (ap (λ (d : Decided). d .number) e) ∙ z in absurd (omega arith)
-      go (deletes s ρ e v p W takes-none found above) = record {
+      go (deletes o e v p W takes-none found above) = record {
         before = [];
-        switch = s;
-        rest = ρ;
+        switch = o .first;
+        rest = o .rest;
         marks = e;
         plan = p;
         from = refl;

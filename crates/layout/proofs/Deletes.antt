@@ -18,7 +18,7 @@ use Rattle.tree.proofs.Stores.{part-nil}
 use Rattle.tree.proofs.Frame.{held-earlier}
 use Rattle.tree.proofs.Delete.{empty-clears, child-dropped-good, bypass-good, bypass-clears, leaf-removed}
 use Rattle.layout.specs.Layout.{base, Held, refAt}
-use Rattle.layout.specs.Operations.{store, headerStore, Drops, Deletes}
+use Rattle.layout.specs.Operations.{store, headerStore, Deleting, emptying, bypassing, lifting, Drops, Deletes}
 use Rattle.layout.proofs.Base.{none-seen}
 use Rattle.layout.proofs.Held.{held, ref-child, holds-at, good-at}
 use Rattle.layout.proofs.Changes.{switched}
@@ -26,7 +26,7 @@ use Rattle.layout.proofs.Headers.{header-kept}
 
 module _ (D N : ℕ) (m : Mem) (t : Tree ℕ) (H : Held D N m t) where
   -- ---- the reference of the place becomes 0
-  drops : (π : List ℕ) → On π t → Good (digitIn D) D 0 (λ i. 0) (plug π t empty) → Drops D N m t π (store (refAt N 1 π t) 0) [] []
+  drops : (π : List ℕ) → On π t → Good (digitIn D) D 0 (λ i. 0) (plug π t empty) → Drops D N m t π (emptying (refAt N 1 π t)) []
   unfolding run mult Holds
   drops π on good = record {
     before = λ τ p. rw (part-nil τ p) H;
@@ -38,15 +38,15 @@ module _ (D N : ℕ) (m : Mem) (t : Tree ℕ) (H : Held D N m t) where
   }
 
   -- which is the root
-  pub drops-root : Drops D N m t [] (store 1 0) [] []
+  pub drops-root : Drops D N m t [] (emptying 1) []
   unfolding refAt plug Good
   drops-root = drops [] here tt
 
   module _ (ρ : List ℕ) (x b s : ℕ) (kids : ℕ → Tree ℕ) (p : Stands ρ (node x b s kids) t) (c : ℕ) (lc : c < 16) where
     -- or the child of a node of three or more
-    pub drops-child : 3 ≤ children kids → Drops D N m t (ρ ++ c ∷ []) (store (childWord N (x - N) c) 0) [] []
+    pub drops-child : 3 ≤ children kids → Drops D N m t (ρ ++ c ∷ []) (emptying (childWord N (x - N) c)) []
     drops-child h =
-        subst (λ i. Drops D N m t (ρ ++ c ∷ []) (store i 0) [] []) (ref-child D N ρ c x b s kids t p)
+        subst (λ i. Drops D N m t (ρ ++ c ∷ []) (emptying i) []) (ref-child D N ρ c x b s kids t p)
         (drops (ρ ++ c ∷ []) ((child (digitIn D) ρ c x b s kids t lc p) .stands .on)
         (child-dropped-good (digitIn D) (digit-lt D) D t (H .good) ρ x b s kids p c lc h))
 
@@ -74,7 +74,7 @@ module _ (D N : ℕ) (m : Mem) (t : Tree ℕ) (H : Held D N m t) where
 
       -- rest: what follows the switch
       bypasses : (rest : List Store) → ((m′ : Mem) → Held D N m′ left → (τ : List Store) → Part rest τ → Held D N (run τ m′) left)
-          → Drops D N m t (ρ ++ c ∷ []) switch rest (x ∷ [])
+          → Drops D N m t (ρ ++ c ∷ []) (record { first = switch; rest = rest }) (x ∷ [])
       unfolding run
       bypasses rest keeps = record {
         before = λ τ q. rw (part-nil τ q) H;
@@ -84,14 +84,14 @@ module _ (D N : ℕ) (m : Mem) (t : Tree ℕ) (H : Held D N m t) where
       }
 
       -- which is a leaf
-      pub drops-bypass : Drops D N m t (ρ ++ c ∷ []) (store (refAt N 1 ρ t) (m (childWord N (x - N) o))) [] (x ∷ [])
+      pub drops-bypass : Drops D N m t (ρ ++ c ∷ []) (bypassing (refAt N 1 ρ t) (m (childWord N (x - N) o))) (x ∷ [])
       unfolding run
       drops-bypass = bypasses [] (λ m′ H′ τ q. rw (part-nil τ q) H′)
 
       -- or a node, whose header comes after the switch: the node is stale till then
       pub drops-bypass-node : D ≤ 256 → (y b′ s₂ : ℕ) (kids′ : ℕ → Tree ℕ) (s′ : ℕ) → kids o ≡ node y b′ s₂ kids′
           → Agree (digitIn D) b′ (digitIn D s₂) s′
-          → Drops D N m t (ρ ++ c ∷ []) (store (refAt N 1 ρ t) (m (childWord N (x - N) o))) (headerStore D N (y - N) (dep ρ 0 t) b′ s′ ∷ []) (x ∷ [])
+          → Drops D N m t (ρ ++ c ∷ []) (lifting D N (refAt N 1 ρ t) (m (childWord N (x - N) o)) (y - N) (dep ρ 0 t) b′ s′) (x ∷ [])
       unfolding Good
       drops-bypass-node d y b′ s₂ kids′ s′ e agree =
           let below : b + 1 ≤ b′ = (subst (Good (digitIn D) D (b + 1) (upd (digitIn D s) b o)) e (good .3 o lo)) .0 in
@@ -102,9 +102,8 @@ module _ (D N : ℕ) (m : Mem) (t : Tree ℕ) (H : Held D N m t) where
           (omega (arith, plug-dep ρ 0 t (kids o) (p .on))))
 
   -- ---- a leaf dropped is its key deleted
-  pub deletes : (π : List ℕ) (s : Store) (ρ : List Store) (over : List ℕ) (x k v : ℕ) → Stands π (leaf x k v) t → Drops D N m t π s ρ over
-      → Deletes D N m t k s ρ (x ∷ over)
-  deletes π s ρ over x k v p e = record {
+  pub deletes : (π : List ℕ) (o : Deleting) (over : List ℕ) (x k v : ℕ) → Stands π (leaf x k v) t → Drops D N m t π o over → Deletes D N m t k o (x ∷ over)
+  deletes π o over x k v p e = record {
     before = e .before;
     after = e .after;
     since = e .since;

@@ -17,7 +17,7 @@ use Rattle.tree.proofs.Places.{Child, child, agree-down, good-plug}
 use Rattle.tree.proofs.Stores.{Words, words-part, words-more, words-block, run-off, run-append, block-first, block-at, part-all, part-nil}
 use Rattle.tree.proofs.Put.{adds-below, value-adds, leaf-adds}
 use Rattle.layout.specs.Layout.{own, base, Held, refAt}
-use Rattle.layout.specs.Operations.{store, leafStores, Puts}
+use Rattle.layout.specs.Operations.{store, leafStores, replacing, growing, Puts}
 use Rattle.layout.proofs.Base.{ref-leaf, SeesLeaf, sees, leaf-seen, own-root, own-leaf}
 use Rattle.layout.proofs.Held.{held, ref-child, good-at, leaf-slot}
 use Rattle.layout.proofs.Changes.{kept, amended, switched}
@@ -54,7 +54,7 @@ module _ (D N : ℕ) (m : Mem) (t : Tree ℕ) (H : Held D N m t) where
   pub puts : (k v : ℕ) (taken : List ℕ) (π : List ℕ) (r : ℕ) (u : Tree ℕ) (σ : List Store) → On π t → Leads (digitIn D) π t k → Free t taken
       → ((τ : List Store) → Part σ τ → Held D N (run τ m) t)
       → Holds (base D N) (run σ m) (dep π 0 t) r u → Filled u → GoodAt (digitIn D) D π t u → Adds (digitIn D) k v taken (sub π t) u
-      → Puts D N m t k v σ (store (refAt N 1 π t) r) taken
+      → Puts D N m t k v (record { first = σ; last = store (refAt N 1 π t) r }) taken
   unfolding run
   puts k v taken π r u σ on leads free before ready filled good adds = record {
     before = before;
@@ -76,7 +76,7 @@ module _ (D N : ℕ) (m : Mem) (t : Tree ℕ) (H : Held D N m t) where
           go (inr o) = omega (arith, adds .slots x, H .once x)
 
   -- ---- the value of a held key
-  pub puts-value : (k v x v₀ : ℕ) (π : List ℕ) → Stands π (leaf x k v₀) t → Puts D N m t k v [] (store (leafWord x + 1) v) []
+  pub puts-value : (k v x v₀ : ℕ) (π : List ℕ) → Stands π (leaf x k v₀) t → Puts D N m t k v (replacing x v) []
   unfolding run mult Good Holds
   puts-value k v x v₀ π p =
       let i : ℕ = leafWord x + 1 in
@@ -116,7 +116,7 @@ module _ (D N : ℕ) (m : Mem) (t : Tree ℕ) (H : Held D N m t) where
 
     -- in an empty place
     pub puts-leaf : (π : List ℕ) → Stands π empty t → Leads (digitIn D) π t k
-        → Puts D N m t k v (leafStores z k v) (store (refAt N 1 π t) (leafRef z)) (z ∷ [])
+        → Puts D N m t k v (growing z k v (refAt N 1 π t)) (z ∷ [])
     unfolding Good Holds
     puts-leaf π p leads =
         puts k v (z ∷ []) π (leafRef z) (leaf z k v) (leafStores z k v) (p .on) leads (zf, tt)
@@ -126,16 +126,16 @@ module _ (D N : ℕ) (m : Mem) (t : Tree ℕ) (H : Held D N m t) where
         (subst (λ u. Adds (digitIn D) k v (z ∷ []) u (leaf z k v)) (sym (p .is)) (leaf-adds (digitIn D) z k v))
 
     -- which is the root
-    pub puts-root : t ≡ empty → Puts D N m t k v (leafStores z k v) (store 1 (leafRef z)) (z ∷ [])
+    pub puts-root : t ≡ empty → Puts D N m t k v (growing z k v 1) (z ∷ [])
     unfolding refAt sub dep
     puts-root e = puts-leaf [] (record { on = here; is = e }) (λ i h. absurd (omega arith))
 
     -- or the child, at k's digit, of a node whose keys begin as k
     pub puts-child : (ρ : List ℕ) (x b s : ℕ) (kids : ℕ → Tree ℕ) → Stands ρ (node x b s kids) t → Agree (digitIn D) b (digitIn D s) k
-        → kids (digitIn D k b) ≡ empty → Puts D N m t k v (leafStores z k v) (store (childWord N (x - N) (digitIn D k b)) (leafRef z)) (z ∷ [])
+        → kids (digitIn D k b) ≡ empty → Puts D N m t k v (growing z k v (childWord N (x - N) (digitIn D k b))) (z ∷ [])
     puts-child ρ x b s kids p agree e =
         let c : ℕ = digitIn D k b in
         let C : Child (digitIn D) ρ c x b s kids t = child (digitIn D) ρ c x b s kids t (digit-lt D k b) p in
-        subst (λ i. Puts D N m t k v (leafStores z k v) (store i (leafRef z)) (z ∷ [])) (ref-child D N ρ c x b s kids t p)
+        subst (λ i. Puts D N m t k v (growing z k v i) (z ∷ [])) (ref-child D N ρ c x b s kids t p)
         (puts-leaf (ρ ++ c ∷ []) (record { on = C .stands .on; is = C .stands .is ∙ e })
         (rw (C .dep-is 0, C .pre-is (λ i. 0)) (agree-down (digitIn D) b c s k agree refl)))

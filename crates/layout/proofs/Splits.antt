@@ -19,7 +19,7 @@ use Rattle.tree.proofs.Near.{Past}
 use Rattle.tree.proofs.Stores.{Words, words-more, words-append, words-block, run-off, run-append, block-off, block-first, block-at, length-tab, tab-at, part-all, part-nil, part-append}
 use Rattle.tree.proofs.Put.{past-filled, past-good, splitTree, split-holds, split-filled, split-good, split-adds}
 use Rattle.layout.specs.Layout.{own, headView, base, Held, refAt}
-use Rattle.layout.specs.Operations.{store, leafStores, headerStore, splitChildren, splitStores, Puts}
+use Rattle.layout.specs.Operations.{leafStores, splitChildren, nodeStores, targetStore, splitting, splittingLeaf, splittingNode, Puts}
 use Rattle.layout.proofs.Base.{ref-node, SeesNode, node-seen, none-seen, own-leaf, own-node, own-slot}
 use Rattle.layout.proofs.Held.{sub-holds, holds-at, good-at, node-slot}
 use Rattle.layout.proofs.Changes.{ref-owner}
@@ -52,7 +52,7 @@ module _ (D N : ℕ) (m : Mem) (t : Tree ℕ) (H : Held D N m t) (d : D ≤ 256)
   words = headerIn D w (f - w) k ∷ tab 16 children
 
   abbrev first : List Store
-  first = leafStores z k v ++ block (nodeWord N j) words
+  first = leafStores z k v ++ nodeStores D N w f k k₂ z j (m q)
 
   first-fresh : Words (Fresh N t) first
   first-fresh =
@@ -165,7 +165,7 @@ module _ (D N : ℕ) (m : Mem) (t : Tree ℕ) (H : Held D N m t) (d : D ≤ 256)
         split-good (digitIn D) (digit-lt D) (N + j) f z k v c (digit-lt D k₂ f) differ (sub π t) D w (pre (digitIn D) π (λ i. 0) t) deep fD leads
         (past-filled (digitIn D) f k₂ (sub π t) past) target-good
 
-    splits : Puts D N m t k v (splitStores D N w f k v k₂ z j (m q) target) (store q (nodeRef j)) (z ∷ (N + j) ∷ [])
+    splits : Puts D N m t k v (splitting D N w f k v k₂ z j q (m q) target) (z ∷ (N + j) ∷ [])
     splits =
         puts D N m t H k v (z ∷ (N + j) ∷ []) π (nodeRef j) new (first ++ target) on leads (zf, (jf, tt)) cut new-holds
         (split-filled (digitIn D) (digit-lt D) (N + j) f z k v c (digit-lt D k₂ f) differ (sub π t)) new-good
@@ -173,7 +173,7 @@ module _ (D N : ℕ) (m : Mem) (t : Tree ℕ) (H : Held D N m t) (d : D ≤ 256)
 
   -- of a leaf, which is held at every walk depth
   pub puts-split-leaf : (x v₂ : ℕ) → sub π t ≡ leaf x k₂ v₂
-      → Puts D N m t k v (splitStores D N (dep π 0 t) f k v k₂ z j (m (refAt N 1 π t)) []) (store (refAt N 1 π t) (nodeRef j)) (z ∷ (N + j) ∷ [])
+      → Puts D N m t k v (splittingLeaf D N (dep π 0 t) f k v k₂ z j (refAt N 1 π t) (m (refAt N 1 π t))) (z ∷ (N + j) ∷ [])
   unfolding run Holds Words
   puts-split-leaf x v₂ is =
       splits (rw is refl) []
@@ -183,14 +183,15 @@ module _ (D N : ℕ) (m : Mem) (t : Tree ℕ) (H : Held D N m t) (d : D ≤ 256)
 
   -- of a node, whose own header comes before the switch: the node is stale till then
   pub puts-split-node : (x b s : ℕ) (kids : ℕ → Tree ℕ) → sub π t ≡ node x b s kids → f < b → Agree (digitIn D) b (digitIn D s) k₂
-      → Puts D N m t k v (splitStores D N (dep π 0 t) f k v k₂ z j (m (refAt N 1 π t)) (headerStore D N (x - N) (f + 1) b k₂ ∷ []))
-      (store (refAt N 1 π t) (nodeRef j)) (z ∷ (N + j) ∷ [])
+      → Puts D N m t k v (splittingNode D N (dep π 0 t) f k v k₂ z j (refAt N 1 π t) (m (refAt N 1 π t)) (x - N) b) (z ∷ (N + j) ∷ [])
   unfolding run Words mult
   puts-split-node x b s kids is fb agree =
       let p : Stands π (node x b s kids) t = record { on = on; is = is } in
       let own-x : own N (nodeWord N (x - N)) ≡ x = own-slot N x (nodeWord N (x - N)) ((node-slot D N m t H π x b s kids p) .0) (omega arith) (omega arith) in
-      splits (rw is (fb, agree)) (headerStore D N (x - N) (f + 1) b k₂ ∷ [])
-      (λ m′ H′ τ o. header-kept D N d m′ t H′ π x b s kids p (f + 1) k₂ (omega arith) agree (omega arith) τ o)
+      let length : b - f - 1 ≡ b - (f + 1) = omega arith in
+      splits (rw is (fb, agree)) (targetStore D N f k₂ (x - N) b ∷ [])
+      (λ m′ H′ τ o. header-kept D N d m′ t H′ π x b s kids p (f + 1) k₂ (omega arith) agree (omega arith) τ (rw length at o))
       (λ m′ H′.
-      header-at D N d m′ t H′ π x b s kids p (f + 1) k₂ (omega arith) agree (f + 1) (m′ q) (omega arith) (sub-holds D N m′ π 0 1 t on (H′ .holds)))
+      rw length
+      (header-at D N d m′ t H′ π x b s kids p (f + 1) k₂ (omega arith) agree (f + 1) (m′ q) (omega arith) (sub-holds D N m′ π 0 1 t on (H′ .holds))))
       (rw own-x (omega (arith, ap (mult x) is, one-at x, sub-mult π t x on)), tt)

@@ -4,11 +4,12 @@ use mathlib.Core.Path.{_≡_, refl}
 use Prim.Native.Nat.{ℕ}
 use lib.ListN.{length}
 use Rattle.tree.specs.Stores.{block, tab}
+use Rattle.layout.specs.Operations.{putStores, growing}
 use Rattle.walk.specs.declared.Spot.{Spot}
 use Rattle.walk.specs.declared.Lowest.the-variants.{Key}
 use Rattle.planning.specs.declared.splitting.Cleft.{Cleft}
 use Rattle.planning.specs.declared.splitting.Target.the-variants.{ALeaf, ANode}
-use Rattle.planning.specs.Puts.{growStores, splitStores, replaced}
+use Rattle.planning.specs.Puts.{cleaving, replaced}
 use Rattle.planning.specs.Deletes.{emptied, bypassed, liftOf}
 
 -- "k is found: one store"
@@ -16,17 +17,17 @@ pub replaced-count : (i v : ℕ) → length (replaced i v .stores) ≡ 1
 replaced-count i v = refl
 
 -- "leaf key, leaf value, that child. 3 stores."
-pub grow-count : (leaf k v at : ℕ) → length (growStores leaf k v at) ≡ 3
+pub grow-count : (leaf k v at : ℕ) → length (putStores (growing leaf k v at)) ≡ 3
 unfolding block
 grow-count leaf k v at = refl
 
 -- "20 stores for a leaf target, 21 for a node"
 module _ (n : ℕ) (s : Cleft) (leaf node k v : ℕ) where
-  pub leaf-split-count : length (splitStores n s leaf node k v ALeaf) ≡ 20
+  pub leaf-split-count : length (putStores (cleaving n s leaf node k v ALeaf)) ≡ 20
   unfolding block tab
   leaf-split-count = refl
 
-  pub node-split-count : (j b : ℕ) → length (splitStores n s leaf node k v (ANode j b)) ≡ 21
+  pub node-split-count : (j b : ℕ) → length (putStores (cleaving n s leaf node k v (ANode j b))) ≡ 21
   unfolding block tab
   node-split-count j b = refl
 

@@ -35,6 +35,7 @@ use Rattle.walk.specs.declared.End.the-variants.{AtLeaf, AtEmpty, Stopped, Dama
 use Rattle.walk.specs.declared.Lowest.{Lowest}
 use Rattle.walk.specs.declared.Lowest.the-variants.{Key, NoKey}
 use Rattle.walk.proofs.Ends.{walk-inside}
+use Rattle.layout.specs.Operations.{putStores}
 use Rattle.plan.specs.Plans.{Decided, refused, planOf, plannedOf}
 use Rattle.plan.specs.Effects.{Inside}
 use Rattle.plan.specs.declared.Plan.{Plan}
@@ -45,10 +46,11 @@ use Rattle.planning.specs.declared.splitting.Target.{Target}
 use Rattle.planning.specs.declared.splitting.Target.the-variants.{ALeaf, ANode}
 use Rattle.planning.specs.declared.splitting.Room.{Room}
 use Rattle.planning.specs.declared.splitting.Room.the-variants.{Slots, Full}
-use Rattle.planning.specs.Puts.{store, freeLeaf, growOf, splitChild, targetHeader, splitStores, roomOf, splitIn, splitOf, cleftAt, placedAt, besideOf, belowLast, putAt, putIn, putPlan}
+use Rattle.planning.specs.Puts.{store, freeLeaf, growOf, splitChild, targetHeader, cleaving, roomOf, splitIn, splitOf}
+use Rattle.planning.specs.Puts.{cleftAt, placedAt, besideOf, belowLast, putAt, putIn, putPlan}
 use Rattle.planning.specs.Deletes.{emptied, liftOf, liftAt, mergeOf, unlinkOf, deleteAt, deleteIn, deletePlan}
 use Rattle.planning.proofs.Counts.{leaf-split-count, node-split-count}
-use Rattle.planning.proofs.Splits.{slots-inside}
+use Rattle.planning.proofs.Splits.{slots-inside, cleaving-is}
 
 -- a plan of so many stores, or a refusal that does nothing, with one of these numbers
 pub data Answers (numbers counts : List ℕ) (d : Decided) : Type 0 where
@@ -136,20 +138,22 @@ module _ {pool : List ℕ} (map : List ℕ) {n : ℕ} (z : Sized pool n) (l : le
       header ALeaf h = tt
       header (ANode j b) h = (omega arith, tt)
 
-      count : (leaf node : ℕ) (target : Target) → OneOf putCounts (length (splitStores n s leaf node k v target)) × (length (splitStores n s leaf node k v target) ≤ 21)
+      count : (leaf node : ℕ) (target : Target)
+          → OneOf putCounts (length (putStores (cleaving n s leaf node k v target))) × (length (putStores (cleaving n s leaf node k v target)) ≤ 21)
       count leaf node ALeaf = rw (leaf-split-count n s leaf node k v) (hit putCounts 20 tt, omega arith)
       count leaf node (ANode j b) = rw (node-split-count n s leaf node k v j b) (hit putCounts 21 tt, omega arith)
 
-      stores : (leaf node : ℕ) → leaf < n → node + 1 < n → Words (λ w. w < length pool) (splitStores n s leaf node k v target)
+      stores : (leaf node : ℕ) → leaf < n → node + 1 < n → Words (λ w. w < length pool) (putStores (cleaving n s leaf node k v target))
       stores leaf node a b =
           let P : ℕ → Type 0 = λ w. w < length pool in
           let vs = headerOf (s .depth) (s .diff - s .depth) k ∷ tab 16 (splitChild s leaf k) in
-          words-append P (block (leafWord leaf) (k ∷ v ∷ []) ++ block (nodeWord n node) vs ++ targetHeader n s target) (store (s .at) (nodeRef node) ∷ [])
+          rw (cleaving-is n s leaf node k v target)
+          (words-append P (block (leafWord leaf) (k ∷ v ∷ []) ++ block (nodeWord n node) vs ++ targetHeader n s target) (store (s .at) (nodeRef node) ∷ [])
           (words-append P (block (leafWord leaf) (k ∷ v ∷ []) ++ block (nodeWord n node) vs) (targetHeader n s target)
           (words-append P (block (leafWord leaf) (k ∷ v ∷ [])) (block (nodeWord n node) vs) (words-block P (leafWord leaf) (k ∷ v ∷ []) (λ i g h. omega arith))
           (words-block P (nodeWord n node) vs (λ i g h. omega (arith, length-tab 16 (splitChild s leaf k)))))
           (header target known))
-          (at<, tt)
+          (at<, tt))
 
       go : (r : Room) → roomOf map n ≡ r → PutFits pool map (splitIn n s k v target r)
       go (Slots leaf byte) e =

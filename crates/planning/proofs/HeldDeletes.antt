@@ -15,14 +15,13 @@ use Rattle.pool.specs.Places.{keyAt, childAt, childWord}
 use Rattle.pool.specs.declared.Size.the-variants.{Holds}
 use Rattle.tree.specs.Tree.{Tree, empty, leaf, node, upd, Filled, Two, sub, dep, Stands, find, Good, GoodAt}
 use Rattle.tree.specs.Near.{children, low, way}
-use Rattle.tree.specs.Stores.{Store}
 use Rattle.tree.specs.Shape
 use Rattle.tree.proofs.Stores.{Words}
 use Rattle.tree.proofs.Basics.{Same?, same, other, same?, less?}
 use Rattle.tree.proofs.Places.{child, by-place}
 use Rattle.tree.proofs.Near.{of-two, low-agrees, stands-found}
 use Rattle.layout.specs.Layout.{Held, base, refAt}
-use Rattle.layout.specs.Operations.{store, headerStore, Deletes, Drops}
+use Rattle.layout.specs.Operations.{Deleting, deleteStores, emptying, bypassing, lifting, Deletes, Drops}
 use Rattle.layout.proofs.Held.{holds-at, good-at}
 use Rattle.layout.proofs.Deletes.{drops-root, drops-child, drops-bypass, drops-bypass-node, deletes}
 use Rattle.walk.specs.Walks.{root, below, childrenOf}
@@ -42,8 +41,8 @@ use Rattle.planning.specs.Deletes.{emptied, mergeWith, unlinkOf, deleteA
 -- what the plan of a delete of k is: a refusal where the key is not held, or stores that take it out
 pub data DeleteIs (pool : List ℕ) (n : ℕ) (t : Tree ℕ) (k : ℕ) (d : Decided) : Type 0 where
   absent : d ≡ refused 3 → find dig k t ≡ none → DeleteIs pool n t k d
-  does : (s : Store) (ρ : List Store) (e : Effect) (v : ℕ) → d ≡ decided (s ∷ ρ) e → Deletes 16 n (mem pool) t k s ρ (frees e) → takes e ≡ []
-      → find dig k t ≡ some v → Words (λ w. 0 < w) (s ∷ ρ) → DeleteIs pool n t k d
+  does : (o : Deleting) (e : Effect) (v : ℕ) → d ≡ decided (deleteStores o) e → Deletes 16 n (mem pool) t k o (frees e) → takes e ≡ []
+      → find dig k t ≡ some v → Words (λ w. 0 < w) (deleteStores o) → DeleteIs pool n t k d
 
 module _ (pool : List ℕ) (n : ℕ) (t : Tree ℕ) (H : Held 16 n (mem pool) t) (k : ℕ) where
   abbrev all : List ℕ
@@ -61,16 +60,17 @@ module _ (pool : List ℕ) (n : ℕ) (t : Tree ℕ) (H : Held 16 n (mem pool) t)
     plan = pick (eqb (end .nodes) 0) (emptied (end .at) x) (unlinkOf pool n end x)
 
     -- which is dropped
-    drops : (s : Store) (ρ : List Store) (over : List ℕ) (e : Effect) → frees e ≡ x ∷ over → takes e ≡ [] → Words (λ w. 0 < w) (s ∷ ρ) → Drops 16 n (mem pool) t all s ρ over
-        → DeleteIs pool n t k (decided (s ∷ ρ) e)
-    drops s ρ over e fe te above d =
-        does s ρ e v refl (subst (Deletes 16 n (mem pool) t k s ρ) (sym fe) (deletes 16 n (mem pool) t H all s ρ over x k v p d)) te found-here above
+    drops : (o : Deleting) (over : List ℕ) (e : Effect) → frees e ≡ x ∷ over → takes e ≡ [] → Words (λ w. 0 < w) (deleteStores o)
+        → Drops 16 n (mem pool) t all o over → DeleteIs pool n t k (decided (deleteStores o) e)
+    drops o over e fe te above d =
+        does o e v refl (subst (Deletes 16 n (mem pool) t k o) (sym fe) (deletes 16 n (mem pool) t H all o over x k v p d)) te found-here above
 
     at-root : [] ≡ all → DeleteIs pool n t k plan
     unfolding spotAt Words
     at-root e =
         rw (← e)
-        (drops (store 1 0) [] [] (FreesLeaf x) refl refl (omega arith, tt) (subst (λ π. Drops 16 n (mem pool) t π (store 1 0) [] []) e (drops-root 16 n (mem pool) t H)))
+        (drops (emptying 1) [] (FreesLeaf x) refl refl (omega arith, tt)
+        (subst (λ π. Drops 16 n (mem pool) t π (emptying 1) []) e (drops-root 16 n (mem pool) t H)))
 
     -- ---- child c of node y
     module _ (ρ : List ℕ) (c y b s : ℕ) (kids : ℕ → Tree ℕ) (lc : c < 16) (q : Stands ρ (node y b s kids) t) (way-is : ρ ++ c ∷ [] ≡ all) where
@@ -89,9 +89,9 @@ module _ (pool : List ℕ) (n : ℕ) (t : Tree ℕ) (H : Held 16 n (mem pool) t)
       kid-is : kids c ≡ leaf x k v
       kid-is = sym ((child dig ρ c y b s kids t lc q) .stands .is) ∙ ap (λ π. sub π t) way-is ∙ p .is
 
-      dropped : (s : Store) (σ : List Store) (over : List ℕ) (e : Effect) → frees e ≡ x ∷ over → takes e ≡ [] → Words (λ w. 0 < w) (s ∷ σ) → Drops 16 n (mem pool) t (ρ ++ c ∷ []) s σ over
-          → DeleteIs pool n t k (decided (s ∷ σ) e)
-      dropped s σ over e fe te positive d = drops s σ over e fe te positive (subst (λ π. Drops 16 n (mem pool) t π s σ over) way-is d)
+      dropped : (o : Deleting) (over : List ℕ) (e : Effect) → frees e ≡ x ∷ over → takes e ≡ [] → Words (λ w. 0 < w) (deleteStores o)
+          → Drops 16 n (mem pool) t (ρ ++ c ∷ []) o over → DeleteIs pool n t k (decided (deleteStores o) e)
+      dropped o over e fe te positive d = drops o over e fe te positive (subst (λ π. Drops 16 n (mem pool) t π o over) way-is d)
 
       holds : Shape.Holds (base 16 n) (mem pool) w (mem pool word) (node y b s kids)
       holds = holds-at 16 n (mem pool) t H ρ (node y b s kids) q
@@ -111,7 +111,7 @@ module _ (pool : List ℕ) (n : ℕ) (t : Tree ℕ) (H : Held 16 n (mem pool) t)
       unfolding Words
       unlinked h =
           rw (counted, le-ltb (children kids) 2 (omega arith), lt-ltb 2 (children kids) h)
-          (dropped (store (childWord n (y - n) c) 0) [] [] (FreesLeaf x) refl refl (omega arith, tt) (drops-child 16 n (mem pool) t H ρ y b s kids q c lc h))
+          (dropped (emptying (childWord n (y - n) c)) [] (FreesLeaf x) refl refl (omega arith, tt) (drops-child 16 n (mem pool) t H ρ y b s kids q c lc h))
 
       -- two children: the other is o
       module _ (O : Other pool n w (mem pool word) y b s kids holds c) (count : children kids ≡ 2) where
@@ -135,7 +135,7 @@ module _ (pool : List ℕ) (n : ℕ) (t : Tree ℕ) (H : Held 16 n (mem pool) t)
         merged empty e = absurd (rw e at (O .there))
         merged (leaf z k′ v′) e =
             rw (held-leaf pool n (b + 1) r z k′ v′ (other-holds (leaf z k′ v′) e) .ref, spot-word n root ρ t (q .on), slot-back)
-            (dropped (store word r) [] (y ∷ []) (FreesBoth x y) refl refl (ref-above n 1 ρ t (omega arith), tt)
+            (dropped (bypassing word r) (y ∷ []) (FreesBoth x y) refl refl (ref-above n 1 ρ t (omega arith), tt)
             (drops-bypass 16 n (mem pool) t H ρ y b s kids q c lc (O .o) (O .o<) apart count full (O .there)))
         merged (node z b′ s′ kids′) e =
             let u : Tree ℕ = node z b′ s′ kids′ in
@@ -143,7 +143,7 @@ module _ (pool : List ℕ) (n : ℕ) (t : Tree ℕ) (H : Held 16 n (mem pool) t)
             let g = subst (Good dig 16 (b + 1) (upd (dig s) b (O .o))) e (good .3 (O .o) (O .o<)) in
             let low-is = low-held pool n 17 (b + 1) r (upd (dig s) b (O .o)) u (other-holds u e) g tt (omega (arith, a .w≤b, a .b<)) (omega arith) in
             rw (a .refers, a .head, low-is, spot-word n root ρ t (q .on), spot-depth n root ρ t (q .on), slot-back)
-            (dropped (store word r) (headerStore 16 n (z - n) w b′ (low u) ∷ []) (y ∷ []) (FreesBoth x y) refl refl (ref-above n 1 ρ t (omega arith), (omega arith, tt))
+            (dropped (lifting 16 n word r (z - n) w b′ (low u)) (y ∷ []) (FreesBoth x y) refl refl (ref-above n 1 ρ t (omega arith), (omega arith, tt))
             (drops-bypass-node 16 n (mem pool) t H ρ y b s kids q c lc (O .o) (O .o<) apart count full (O .there) (omega arith) z b′ s′ kids′ (low u) e
             (low-agrees dig (digit-lt 16) 16 b′ (dig s′) u tt (omega arith, g .1, λ i l. refl, g .3, g .4))))
 

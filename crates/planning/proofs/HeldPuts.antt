@@ -5,28 +5,27 @@ use mathlib.Core.Path.{_≡_, refl, sym, ap, _∙_, subst}
 use mathlib.Core.Bool.{Bool, true, false}
 use mathlib.Core.Logic.{_≢_, _⊎_, inl, inr}
 use mathlib.Core.Option.{none, some}
-use mathlib.Core.List.{List, [], _∷_, _++_, append-assoc}
+use mathlib.Core.List.{List, [], _∷_, _++_}
 use Prim.Native.Nat.{ℕ, _+_, _-_, _^_, _≤_, _<_}
 use native.Mathlib.Omega.{arith}
 use borrow.Author.Tests.{lt-ltb, le-ltb, eq-eqb, ne-eqb}
 use lib.ListN.{length}
 use Rattle.digits.specs.Digits.{firstDiff}
 use Rattle.digits.specs.Loops.{scan}
-use Rattle.digits.specs.Headers.{headerIn}
 use Rattle.digits.proofs.Digits.{digit-lt, first-diff-le, first-diff-agree, first-diff-differ, first-diff-same}
 use Rattle.pool.specs.Sizes.{bytesOf, capacityOf}
 use Rattle.pool.specs.Places.{wordAt, keyAt, nodeWord, leafWord, childWord, leafRef, nodeRef}
 use Rattle.pool.specs.declared.Size.the-variants.{Holds}
 use Rattle.tree.specs.Tree.{Tree, empty, leaf, node, mult, leaves, upd, Filled, sub, dep, pre, Stands, Agree, find, Good, GoodAt}
 use Rattle.tree.specs.Near.{filled, low, near, way}
-use Rattle.tree.specs.Stores.{Store, block, tab}
+use Rattle.tree.specs.Stores.{block}
 use Rattle.tree.specs.Shape
 use Rattle.tree.proofs.Basics.{Same?, same, other, same?, less?}
 use Rattle.tree.proofs.Places.{child}
 use Rattle.tree.proofs.Near.{Past, Gap, Placed, placed, lowest, filled-is, not-filled, stands-found}
 use Rattle.tree.proofs.Stores.{Words, words-append, words-block}
 use Rattle.layout.specs.Layout.{Held, base, refAt}
-use Rattle.layout.specs.Operations.{Puts, leafStores, headerStore, splitChildren, splitStores as splitFirst}
+use Rattle.layout.specs.Operations.{Putting, putStores, Puts, leafStores, nodeStores, replacing, growing}
 use Rattle.layout.proofs.Held.{holds-at, good-at}
 use Rattle.layout.proofs.Puts.{puts-value, puts-root, puts-child}
 use Rattle.layout.proofs.Splits.{puts-split-leaf, puts-split-node}
@@ -47,8 +46,9 @@ use Rattle.held.proofs.Nearest.{way-more, near-leaf, near-empty, low-apart, Las
 use Rattle.planning.specs.declared.splitting.Cleft.{Cleft}
 use Rattle.planning.specs.declared.splitting.Target.{Target}
 use Rattle.planning.specs.declared.splitting.Target.the-variants.{ALeaf, ANode}
-use Rattle.planning.specs.Puts.{store, freeLeaf, freeNode, growOf, targetHeader, splitStores, splitOf, cleftAt}
+use Rattle.planning.specs.Puts.{store, freeLeaf, freeNode, growOf, targetHeader, cleaving, splitOf, cleftAt}
 use Rattle.planning.specs.Puts.{placedAt, besideOf, leafPut, emptyPut, putAt, putPlan}
+use Rattle.planning.proofs.Splits.{cleaving-is}
 use Rattle.planning.proofs.HeldRoom.{leaf-free, node-free, node-room, leaf-fewer, all-held}
 
 -- a tree in which a key's walk comes to a leaf is not empty
@@ -61,8 +61,8 @@ way-filled k x k′ v′ (node y b s kids) e = tt
 -- what the plan of a put of v for k is: a refusal for room where the key is new and all n places are held, or stores that put it
 pub data PutIs (pool : List ℕ) (n : ℕ) (t : Tree ℕ) (k v : ℕ) (d : Decided) : Type 0 where
   full : d ≡ refused 4 → find dig k t ≡ none → leaves t ≡ n → PutIs pool n t k v d
-  does : (σ : List Store) (s : Store) (e : Effect) → d ≡ decided (σ ++ s ∷ []) e → Puts 16 n (mem pool) t k v σ s (takes e) → frees e ≡ []
-      → (find dig k t ≡ none → leaves t < n) → Words (λ w. 0 < w) (σ ++ s ∷ []) → PutIs pool n t k v d
+  does : (o : Putting) (e : Effect) → d ≡ decided (putStores o) e → Puts 16 n (mem pool) t k v o (takes e) → frees e ≡ []
+      → (find dig k t ≡ none → leaves t < n) → Words (λ w. 0 < w) (putStores o) → PutIs pool n t k v d
 
 -- the word of a reference is not word 0
 pub ref-above : (n i : ℕ) (π : List ℕ) (t : Tree ℕ) → 0 < i → 0 < refAt n i π t
@@ -98,14 +98,14 @@ module _ (pool bytes : List ℕ) (n : ℕ) (pos : 1 ≤ n) (cap : n ≤ 1024) (t
 
   -- ---- a new leaf, where one may be put below the reference at a word
   grow-is : (at : ℕ) → 0 < at → find dig k t ≡ none
-      → ((z : ℕ) → z < n → mult z t ≡ 0 → Puts 16 n (mem pool) t k v (leafStores z k v) (store at (leafRef z)) (z ∷ []))
+      → ((z : ℕ) → z < n → mult z t ≡ 0 → Puts 16 n (mem pool) t k v (growing z k v at) (z ∷ []))
       → PutIs pool n t k v (growOf bytes n k v at)
   unfolding Words
   grow-is at above new law = go (less? z n)
     where
       go : (z < n) ⊎ (n ≤ z) → PutIs pool n t k v (growOf bytes n k v at)
       go (inl l) =
-          does (leafStores z k v) (store at (leafRef z)) (TakesLeaf z) (rw (lt-ltb z n l)) (law z l (leaf-free pool bytes n t pos H M l)) refl
+          does (growing z k v at) (TakesLeaf z) (rw (lt-ltb z n l)) (law z l (leaf-free pool bytes n t pos H M l)) refl
           (λ e. leaf-fewer pool bytes n t pos H M l) (words-append (λ w. 0 < w) (leafStores z k v) (store at (leafRef z) ∷ []) (block-above (leafWord z) (k ∷ v ∷ []) (omega arith)) (above, tt))
       go (inr l) = full (rw (le-ltb z n l)) new (all-held pool bytes n t pos H M l)
 
@@ -142,58 +142,56 @@ module _ (pool bytes : List ℕ) (n : ℕ) (pos : 1 ≤ n) (cap : n ≤ 1024) (t
     unfolding cleft
     cleft-is = rw (spot-word n root π t (place .on), spot-depth n root π t (place .on))
 
-    -- all stores but the last
-    first : ℕ → ℕ → List Store → List Store
-    first z j target = splitFirst 16 n (dep π 0 t) f k v k₂ z j (mem pool (refAt n 1 π t)) target
-
-    split-stores : (z j : ℕ) (target : Target) (header : List Store) → targetHeader n cleft target ≡ header
-        → splitStores n cleft z j k v target ≡ first z j header ++ store (refAt n 1 π t) (nodeRef j) ∷ []
-    unfolding cleft first
-    split-stores z j target header e = rw e (simp append-assoc)
-
     -- none of a split's stores is to word 0
-    split-above : (z j : ℕ) (header : List Store) → Words (λ w. 0 < w) header → Words (λ w. 0 < w) (first z j header ++ store (refAt n 1 π t) (nodeRef j) ∷ [])
-    unfolding first Words
-    split-above z j header h =
+    header-above : (target : Target) → Words (λ w. 0 < w) (targetHeader n cleft target)
+    unfolding Words
+    header-above ALeaf = tt
+    header-above (ANode j b) = (omega arith, tt)
+
+    split-above : (z j : ℕ) (target : Target) → Words (λ w. 0 < w) (putStores (cleaving n cleft z j k v target))
+    unfolding cleft Words
+    split-above z j target =
         let P : ℕ → Type 0 = λ w. 0 < w in
         let leaf-stores = leafStores z k v in
-        let node-stores = block (nodeWord n j) (headerIn 16 (dep π 0 t) (f - dep π 0 t) k ∷ tab 16 (splitChildren 16 f k k₂ z (mem pool (refAt n 1 π t)))) in
-        words-append P ((leaf-stores ++ node-stores) ++ header) (store (refAt n 1 π t) (nodeRef j) ∷ [])
-        (words-append P (leaf-stores ++ node-stores) header (words-append P leaf-stores node-stores (block-above (leafWord z) (k ∷ v ∷ []) (omega arith)) (block-above (nodeWord n j) _ (omega arith))) h)
-        (ref-above n 1 π t (omega arith), tt)
+        let node-stores = nodeStores 16 n (dep π 0 t) f k k₂ z j (mem pool (refAt n 1 π t)) in
+        let header = targetHeader n cleft target in
+        rw (cleaving-is n cleft z j k v target)
+        (words-append P (leaf-stores ++ node-stores ++ header) (store (refAt n 1 π t) (nodeRef j) ∷ [])
+        (words-append P (leaf-stores ++ node-stores) header
+        (words-append P leaf-stores node-stores (block-above (leafWord z) (k ∷ v ∷ []) (omega arith)) (block-above (nodeWord n j) _ (omega arith)))
+        (header-above target))
+        (ref-above n 1 π t (omega arith), tt))
 
-    split-is : (target : Target) (header : List Store) → Words (λ w. 0 < w) header → targetHeader n cleft target ≡ header
+    split-is : (target : Target)
         → ((z j : ℕ) → z < n → mult z t ≡ 0 → j + 1 < n → mult (n + j) t ≡ 0
-        → Puts 16 n (mem pool) t k v (first z j header) (store (refAt n 1 π t) (nodeRef j)) (z ∷ (n + j) ∷ []))
+        → Puts 16 n (mem pool) t k v (cleaving n cleft z j k v target) (z ∷ (n + j) ∷ []))
         → PutIs pool n t k v (splitOf bytes n (cleftAt pool k₂ f spot) k v target)
-    split-is target header above te law = rw cleft-is (go (less? z n))
+    split-is target law = rw cleft-is (go (less? z n))
       where
         go : (z < n) ⊎ (n ≤ z) → PutIs pool n t k v (splitOf bytes n cleft k v target)
         go (inl l) =
             let room : y < bytesOf n = node-room pool bytes n t pos H M (leaf-fewer pool bytes n t pos H M l) fl in
             let (low, free) = node-free pool bytes n t pos H M room in
             let back : n + (y - n) ≡ y = omega arith in
-            does (first z (y - n) header) (store (refAt n 1 π t) (nodeRef (y - n))) (TakesBoth z y)
-            (rw (lt-ltb z n l, lt-ltb y (bytesOf n) room) (ap (λ σ. decided σ (TakesBoth z y)) (split-stores z (y - n) target header te)))
-            (subst (λ x. Puts 16 n (mem pool) t k v (first z (y - n) header) (store (refAt n 1 π t) (nodeRef (y - n))) (z ∷ x ∷ [])) back
+            let o : Putting = cleaving n cleft z (y - n) k v target in
+            does o (TakesBoth z y) (rw (lt-ltb z n l, lt-ltb y (bytesOf n) room))
+            (subst (λ x. Puts 16 n (mem pool) t k v o (z ∷ x ∷ [])) back
             (law z (y - n) l (leaf-free pool bytes n t pos H M l) (omega arith) (rw back free)))
-            refl (λ e. leaf-fewer pool bytes n t pos H M l) (split-above z (y - n) header above)
+            refl (λ e. leaf-fewer pool bytes n t pos H M l) (split-above z (y - n) target)
         go (inr l) = full (rw (le-ltb z n l)) new (all-held pool bytes n t pos H M l)
 
     split-leaf-is : (x v₂ : ℕ) → sub π t ≡ leaf x k₂ v₂ → PutIs pool n t k v (splitOf bytes n (cleftAt pool k₂ f spot) k v ALeaf)
-    unfolding first Words
+    unfolding cleft
     split-leaf-is x v₂ is =
-        split-is ALeaf [] tt refl (λ z j zn zf jn jf.
+        split-is ALeaf (λ z j zn zf jn jf.
         puts-split-leaf 16 n (mem pool) t H (omega arith) cap k v z zn zf j jn jf π (place .on) (place .digits) k₂ f f< (place .deep)
         (first-diff-agree k k₂ 16) (first-diff-differ k k₂ 16 f<) x v₂ is)
 
     split-node-is : (x b s : ℕ) (kids : ℕ → Tree ℕ) → sub π t ≡ node x b s kids → f < b → Agree dig b (dig s) k₂
         → PutIs pool n t k v (splitOf bytes n (cleftAt pool k₂ f spot) k v (ANode (x - n) b))
-    unfolding cleft first Words
+    unfolding cleft
     split-node-is x b s kids is fb agree =
-        let e : b - f - 1 ≡ b - (f + 1) = omega arith in
-        split-is (ANode (x - n) b) (headerStore 16 n (x - n) (f + 1) b k₂ ∷ []) (omega arith, tt)
-        (ap (λ l. store (nodeWord n (x - n)) (headerIn 16 (f + 1) l k₂) ∷ []) e) (λ z j zn zf jn jf.
+        split-is (ANode (x - n) b) (λ z j zn zf jn jf.
         puts-split-node 16 n (mem pool) t H (omega arith) cap k v z zn zf j jn jf π (place .on) (place .digits) k₂ f f< (place .deep)
         (first-diff-agree k k₂ 16) (first-diff-differ k k₂ 16 f<) x b s kids is fb agree)
 
@@ -253,7 +251,7 @@ module _ (pool bytes : List ℕ) (n : ℕ) (pos : 1 ≤ n) (cap : n ≤ 1024) (t
       go : Same? k′ k → PutIs pool n t k v (leafPut pool bytes n k v x)
       go (same p q) =
           rw (eq-eqb (keyAt pool x) k (key ∙ p))
-          (does [] (store (leafWord x + 1) v) Nothing refl
+          (does (replacing x v) Nothing refl
           (puts-value 16 n (mem pool) t H k v x v′ all (record { on = stands .on; is = is ∙ ap (λ i. leaf x i v′) p })) refl
           (λ new. let o : some v′ ≡ none = sym (finds ∙ rw (eq-eqb k k′ (sym p))) ∙ new in let z : _≡_ {A = ℕ} 0 1 = cc in absurd (omega arith)) (omega arith, tt))
       go (other p q) =

@@ -14,6 +14,7 @@ use Rattle.tree.specs.Stores.{Store, block, tab}
 use Rattle.tree.proofs.Stores.{length-tab}
 use Rattle.pool.specs.Sizes.{bytesOf}
 use Rattle.pool.specs.Places.{leafWord, nodeWord, nodeRef}
+use Rattle.layout.specs.Operations.{putStores, splitting}
 use Rattle.plan.specs.Plans.{padded, plannedOf, decided}
 use Rattle.plan.specs.declared.Planned.{Planned}
 use Rattle.plan.specs.declared.Effect.{Effect}
@@ -21,7 +22,7 @@ use Rattle.planning.specs.declared.splitting.Cleft.{Cleft}
 use Rattle.planning.specs.declared.splitting.Target.{Target}
 use Rattle.planning.specs.declared.splitting.Target.the-variants.{ALeaf, ANode}
 use Rattle.planning.specs.declared.splitting.Room.the-variants.{Slots, Full}
-use Rattle.planning.specs.Puts.{store, freeFrom, freeLeaf, freeNode, splitChild, targetHeader, splitStores, roomOf}
+use Rattle.planning.specs.Puts.{store, freeFrom, freeLeaf, freeNode, splitChild, targetHeader, cleaving, roomOf}
 use Rattle.planning.proofs.Arrays.{block-words, block-values, planned-by}
 use Rattle.planning.proofs.Counts.{leaf-split-count, node-split-count}
 use Rattle.planning.proofs.LowestFree.{free-found}
@@ -78,34 +79,45 @@ module _ (n : ℕ) (s : Cleft) (leaf node k v : ℕ) where
   abbrev lastStores : Target → List Store
   lastStores target = targetHeader n s target ++ store (s .at) (nodeRef node) ∷ []
 
+  -- of a leaf and of a node alike
+  pub cleaving-is : (target : Target)
+      → cleaving n s leaf node k v target ≡ splitting 16 n (s .depth) (s .diff) k v (s .near) leaf node (s .at) (s .old) (targetHeader n s target)
+  cleaving-is ALeaf = refl
+  cleaving-is (ANode j b) = refl
+
   in-three : (f : Store → ℕ) (a b c d : List Store) → map f (a ++ b ++ c ++ d) ≡ map f a ++ map f b ++ map f (c ++ d)
   in-three f a b c d = simp (map-append, append-assoc)
 
-  split-words : (target : Target) → map wordOf (splitStores n s leaf node k v target) ≡ firstWords ++ map wordOf (lastStores target)
+  split-words : (target : Target) → map wordOf (putStores (cleaving n s leaf node k v target)) ≡ firstWords ++ map wordOf (lastStores target)
   unfolding block
   split-words target =
-      in-three wordOf (block (leafWord leaf) (k ∷ v ∷ [])) (block (nodeWord n node) nodeValues) (targetHeader n s target) (store (s .at) (nodeRef node) ∷ [])
+      ap (λ o. map wordOf (putStores o)) (cleaving-is target)
+      ∙ in-three wordOf (block (leafWord leaf) (k ∷ v ∷ [])) (block (nodeWord n node) nodeValues) (targetHeader n s target) (store (s .at) (nodeRef node) ∷ [])
       ∙ ap (λ (l : List ℕ). (leafWord leaf ∷ (leafWord leaf + 1) ∷ l) ++ map wordOf (lastStores target))
       (block-words (nodeWord n node) nodeValues ∙ ap (λ (m : ℕ). tab m (λ i. nodeWord n node + i)) (ap suc (length-tab 16 (splitChild s leaf k))))
 
-  split-values : (target : Target) → map valueOf (splitStores n s leaf node k v target) ≡ firstValues ++ map valueOf (lastStores target)
+  split-values : (target : Target) → map valueOf (putStores (cleaving n s leaf node k v target)) ≡ firstValues ++ map valueOf (lastStores target)
   unfolding block
   split-values target =
-      in-three valueOf (block (leafWord leaf) (k ∷ v ∷ [])) (block (nodeWord n node) nodeValues) (targetHeader n s target) (store (s .at) (nodeRef node) ∷ [])
+      ap (λ o. map valueOf (putStores o)) (cleaving-is target)
+      ∙ in-three valueOf (block (leafWord leaf) (k ∷ v ∷ [])) (block (nodeWord n node) nodeValues) (targetHeader n s target) (store (s .at) (nodeRef node) ∷ [])
       ∙ ap (λ (l : List ℕ). (k ∷ v ∷ l) ++ map valueOf (lastStores target)) (block-values (nodeWord n node) nodeValues)
 
   module _ (e : Effect) {words values : List ℕ} {r : ℕ} (w : words ≡ padded firstWords) (u : values ≡ padded firstValues) (q : r ≡ nodeRef node) where
     -- the reference follows
     pub leaf-planned :
         _≡_ {A = Planned} (record { number = 0; plan = record { words = set words 19 (s .at); values = set values 19 r; count = 20; effect = e } })
-        (plannedOf (decided (splitStores n s leaf node k v ALeaf) e))
+        (plannedOf (decided (putStores (cleaving n s leaf node k v ALeaf)) e))
     unfolding tab
-    leaf-planned = planned-by (splitStores n s leaf node k v ALeaf) e (rw (w, split-words ALeaf)) (rw (u, q, split-values ALeaf)) (sym (leaf-split-count n s leaf node k v))
+    leaf-planned =
+        planned-by (putStores (cleaving n s leaf node k v ALeaf)) e (rw (w, split-words ALeaf)) (rw (u, q, split-values ALeaf))
+        (sym (leaf-split-count n s leaf node k v))
 
     -- the target's header follows, then the reference
     pub node-planned : (j b : ℕ) {x h : ℕ} → x ≡ nodeWord n j → h ≡ headerOf (s .diff + 1) (b - s .diff - 1) (s .near)
         → _≡_ {A = Planned} (record { number = 0; plan = record { words = set (set words 19 x) 20 (s .at); values = set (set values 19 h) 20 r; count = 21; effect = e } })
-        (plannedOf (decided (splitStores n s leaf node k v (ANode j b)) e))
+        (plannedOf (decided (putStores (cleaving n s leaf node k v (ANode j b))) e))
     unfolding tab
     node-planned j b p g =
-        planned-by (splitStores n s leaf node k v (ANode j b)) e (rw (w, p, split-words (ANode j b))) (rw (u, q, g, split-values (ANode j b))) (sym (node-split-count n s leaf node k v j b))
+        planned-by (putStores (cleaving n s leaf node k v (ANode j b))) e (rw (w, p, split-words (ANode j b))) (rw (u, q, g, split-values (ANode j b)))
+        (sym (node-split-count n s leaf node k v j b))

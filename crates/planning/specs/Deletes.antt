@@ -1,17 +1,17 @@
 -- What a delete stores, in order, in any pool.
 -- Assumes nothing.
-use mathlib.Core.List.{List, [], _∷_}
-use Prim.Native.Nat.{ℕ, _+_, _-_}
+use mathlib.Core.List.{List}
+use Prim.Native.Nat.{ℕ, _+_}
 use lib.Dec.{eqb, ltb}
 use Rattle.digits.specs.Choice.{pick}
-use Rattle.digits.specs.Headers.{headerOf}
 use Rattle.pool.specs.Sizes.{capacityOf}
-use Rattle.pool.specs.Places.{keyAt, headerAt, childAt, nodeWord}
+use Rattle.pool.specs.Places.{keyAt, headerAt, childAt}
 use Rattle.pool.specs.Refs.{refOf}
 use Rattle.pool.specs.declared.Size.{Size}
 use Rattle.pool.specs.declared.Size.the-variants.{Holds, Wrong}
 use Rattle.pool.specs.declared.Ref.{Ref}
 use Rattle.pool.specs.declared.Ref.the-variants.{Empty, Leaf, Node, Bad}
+use Rattle.layout.specs.Operations.{deleteStores, emptying, bypassing, lifting}
 use Rattle.walk.specs.Walks.{headOf, walkOf, lowestOf, childrenOf, otherChild}
 use Rattle.walk.specs.declared.Head.{Head}
 use Rattle.walk.specs.declared.Head.the-variants.{Branch, Wrong as Unaccepted}
@@ -22,21 +22,19 @@ use Rattle.walk.specs.declared.Lowest.{Lowest}
 use Rattle.walk.specs.declared.Lowest.the-variants.{Key, NoKey}
 use Rattle.plan.specs.Plans.{Decided, decided, refused}
 use Rattle.plan.specs.declared.Effect.the-variants.{FreesLeaf, FreesBoth}
-use Rattle.planning.specs.Puts.{store}
 
 -- one store: a reference to leaf i becomes 0
 abbrev pub emptied : ℕ → ℕ → Decided
-emptied at i = decided (store at 0 ∷ []) (FreesLeaf i)
+emptied at i = decided (deleteStores (emptying at)) (FreesLeaf i)
 
 -- one store: "the reference to P takes the other child", r
 abbrev pub bypassed : ℕ → Spot → ℕ → ℕ → Decided
-bypassed n s i r = decided (store (s .over) r ∷ []) (FreesBoth i (n + s .node))
+bypassed n s i r = decided (deleteStores (bypassing (s .over) r)) (FreesBoth i (n + s .node))
 
 -- "If that child is a node, its header follows (depth: walk depth of P; same branch place; digits from its lowest leaf)." The other child r is
 -- node j, which branches at b.
 abbrev pub liftOf : ℕ → Spot → ℕ → ℕ → ℕ → ℕ → Lowest → Decided
-liftOf n s i r j b (Key k2) =
-    decided (store (s .over) r ∷ store (nodeWord n j) (headerOf (s .above) (b - s .above) k2) ∷ []) (FreesBoth i (n + s .node))
+liftOf n s i r j b (Key k2) = decided (deleteStores (lifting 16 n (s .over) r j (s .above) b k2)) (FreesBoth i (n + s .node))
 liftOf n s i r j b NoKey = refused 2
 
 abbrev pub liftAt : List ℕ → ℕ → Spot → ℕ → ℕ → ℕ → Head → Decided

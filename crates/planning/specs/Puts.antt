@@ -1,18 +1,18 @@
 -- What a put stores, in order, in any pool and map.
 -- Assumes nothing.
-use mathlib.Core.List.{List, [], _∷_, _++_}
+use mathlib.Core.List.{List, [], _∷_}
 use Prim.Native.Nat.{ℕ, _+_, _-_, _<_}
 use lib.Dec.{eqb, ltb}
 use lib.ListN.{length, getD}
 use Rattle.digits.specs.Choice.{pick}
 use Rattle.digits.specs.Loops.{scan}
-use Rattle.digits.specs.Digits.{digitOf, firstDiff}
-use Rattle.digits.specs.Headers.{headerOf}
-use Rattle.tree.specs.Stores.{Store, block, tab}
+use Rattle.digits.specs.Digits.{firstDiff}
+use Rattle.tree.specs.Stores.{Store}
 use Rattle.pool.specs.Sizes.{capacityOf, bytesOf}
-use Rattle.pool.specs.Places.{wordAt, keyAt, leafWord, nodeWord, leafRef, nodeRef}
+use Rattle.pool.specs.Places.{wordAt, keyAt}
 use Rattle.pool.specs.declared.Size.{Size}
 use Rattle.pool.specs.declared.Size.the-variants.{Holds, Wrong}
+use Rattle.layout.specs.Operations.{Putting, putStores, replacing, growing, splitChildren, targetStore, splittingLeaf, splittingNode}
 use Rattle.walk.specs.Walks.{walkOf, walkTo, lowestOf}
 use Rattle.walk.specs.declared.Spot.{Spot}
 use Rattle.walk.specs.declared.End.{End}
@@ -41,36 +41,28 @@ abbrev pub freeNode : List ℕ → ℕ → ℕ
 freeNode map n = freeFrom map n (bytesOf n)
 
 -- "leaf key, leaf value, that child. 3 stores." The reference is the word `at`.
-abbrev pub growStores : ℕ → ℕ → ℕ → ℕ → List Store
-growStores leaf k v at = block (leafWord leaf) (k ∷ v ∷ []) ++ store at (leafRef leaf) ∷ []
-
 abbrev pub growOf : List ℕ → ℕ → ℕ → ℕ → ℕ → Decided
 growOf map n k v at =
-    pick (ltb (freeLeaf map n) n) (decided (growStores (freeLeaf map n) k v at) (TakesLeaf (freeLeaf map n))) (refused 4)
+    pick (ltb (freeLeaf map n) n) (decided (putStores (growing (freeLeaf map n) k v at)) (TakesLeaf (freeLeaf map n))) (refused 4)
 
 -- "its children 0 to 15 in order, the new leaf at digit f of k, the old target at digit f of k2, the rest 0"
 abbrev pub splitChild : Cleft → ℕ → ℕ → ℕ → ℕ
-splitChild s leaf k c =
-    pick (eqb c (digitOf k (s .diff))) (leafRef leaf) (pick (eqb c (digitOf (s .near) (s .diff))) (s .old) 0)
+splitChild s leaf k c = splitChildren 16 (s .diff) k (s .near) leaf (s .old) c
 
 -- "if the target is a node, its header (depth f+1, length b-f-1, digits of k2 from f+1)": node j, which branches at b
 abbrev pub targetHeader : ℕ → Cleft → Target → List Store
 targetHeader n s ALeaf = []
-targetHeader n s (ANode j b) = store (nodeWord n j) (headerOf (s .diff + 1) (b - s .diff - 1) (s .near)) ∷ []
+targetHeader n s (ANode j b) = targetStore 16 n (s .diff) (s .near) j b ∷ []
 
 -- a node that is split off branches past f
 abbrev pub Splits : ℕ → Cleft → Target → Type 0
 Splits n s ALeaf = Unit {0}
 Splits n s (ANode j b) = (j + 1 < n) × (s .diff < b) × (b < 16)
 
--- "Split of a reference met at walk depth w: leaf key, leaf value; new node header (depth w, length f-w, digits of k from w); its children ..;
--- if the target is a node, its header ..; last, the reference."
-abbrev pub splitStores : ℕ → Cleft → ℕ → ℕ → ℕ → ℕ → Target → List Store
-splitStores n s leaf node k v target =
-    block (leafWord leaf) (k ∷ v ∷ [])
-    ++ block (nodeWord n node) (headerOf (s .depth) (s .diff - s .depth) k ∷ tab 16 (splitChild s leaf k))
-    ++ targetHeader n s target
-    ++ store (s .at) (nodeRef node) ∷ []
+-- "Split of a reference met at walk depth w: ..": by what is split off
+abbrev pub cleaving : ℕ → Cleft → ℕ → ℕ → ℕ → ℕ → Target → Putting
+cleaving n s leaf node k v ALeaf = splittingLeaf 16 n (s .depth) (s .diff) k v (s .near) leaf node (s .at) (s .old)
+cleaving n s leaf node k v (ANode j b) = splittingNode 16 n (s .depth) (s .diff) k v (s .near) leaf node (s .at) (s .old) j b
 
 -- a split takes a leaf and a node, each by its byte in the map
 abbrev pub roomOf : List ℕ → ℕ → Room
@@ -78,7 +70,7 @@ roomOf map n =
     pick (ltb (freeLeaf map n) n) (pick (ltb (freeNode map n) (bytesOf n)) (Slots (freeLeaf map n) (freeNode map n)) Full) Full
 
 abbrev pub splitIn : ℕ → Cleft → ℕ → ℕ → Target → Room → Decided
-splitIn n s k v target (Slots leaf byte) = decided (splitStores n s leaf (byte - n) k v target) (TakesBoth leaf byte)
+splitIn n s k v target (Slots leaf byte) = decided (putStores (cleaving n s leaf (byte - n) k v target)) (TakesBoth leaf byte)
 splitIn n s k v target Full = refused 4
 
 abbrev pub splitOf : List ℕ → ℕ → Cleft → ℕ → ℕ → Target → Decided
@@ -114,7 +106,7 @@ belowLast pool map n k v s NoKey = refused 2
 
 -- "1. k is found: one store, the leaf's value."
 abbrev pub replaced : ℕ → ℕ → Decided
-replaced i v = decided (store (leafWord i + 1) v ∷ []) Nothing
+replaced i v = decided (putStores (replacing i v)) Nothing
 
 abbrev pub leafPut : List ℕ → List ℕ → ℕ → ℕ → ℕ → ℕ → Decided
 leafPut pool map n k v i = pick (eqb (keyAt pool i) k) (replaced i v) (besideOf pool map n k v 0 0 (keyAt pool i))

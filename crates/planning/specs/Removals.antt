@@ -1,6 +1,7 @@
 -- What a removal decides: the number, the stores and the effect that the code's answer stands for.
 -- Assumes nothing.
 use mathlib.Core.List.{[], _∷_}
+use Rattle.layout.specs.Operations.{deleteStores, emptying, bypassing}
 use Rattle.plan.specs.Plans.{Decided, decided, refused}
 use Rattle.plan.specs.declared.Effect.the-variants.{FreesLeaf, FreesBoth}
 use Rattle.planning.specs.Puts.{store}
@@ -9,6 +10,6 @@ use Rattle.planning.specs.declared.deleting.Removal.the-variants.{Refuse
 
 abbrev pub decidedBy : Removal → Decided
 decidedBy (Refused k) = refused k
-decidedBy (Emptied at leaf) = decided (store at 0 ∷ []) (FreesLeaf leaf)
-decidedBy (Bypassed at r leaf node) = decided (store at r ∷ []) (FreesBoth leaf node)
+decidedBy (Emptied at leaf) = decided (deleteStores (emptying at)) (FreesLeaf leaf)
+decidedBy (Bypassed at r leaf node) = decided (deleteStores (bypassing at r)) (FreesBoth leaf node)
 decidedBy (Lifted at r word header leaf node) = decided (store at r ∷ store word header ∷ []) (FreesBoth leaf node)

@@ -14,6 +14,7 @@ use Rattle.tree.proofs.Basics.{Same?, same, other, same?, less?}
 use Rattle.tree.proofs.Stores.{length-tab}
 use Rattle.pool.specs.Places.{leafWord, nodeWord, leafRef, nodeRef}
 use Rattle.digits.specs.Headers.{headerOf}
+use Rattle.layout.specs.Operations.{putStores}
 use Rattle.plan.specs.Plans.{Decided, decided, refused, made, After, after, storeOf, finishOf}
 use Rattle.plan.specs.declared.Effect.{Effect}
 use Rattle.plan.specs.declared.Effect.the-variants.{TakesLeaf, TakesBoth}
@@ -23,10 +24,11 @@ use Rattle.planning.specs.declared.splitting.Target.{Target}
 use Rattle.planning.specs.declared.splitting.Target.the-variants.{ALeaf, ANode}
 use Rattle.planning.specs.declared.splitting.Room.{Room}
 use Rattle.planning.specs.declared.splitting.Room.the-variants.{Slots, Full}
-use Rattle.planning.specs.Puts.{store, freeLeaf, growOf, splitChild, targetHeader, splitStores, roomOf, splitOf}
+use Rattle.planning.specs.Puts.{store, freeLeaf, growOf, splitChild, targetHeader, cleaving, roomOf, splitOf}
 use Rattle.writing.specs.Calls.{done, left, wholeOf}
 use Rattle.planning.proofs.Arrays.{tab-last}
 use Rattle.planning.proofs.Counts.{leaf-split-count, node-split-count}
+use Rattle.planning.proofs.Splits.{cleaving-is}
 
 -- a store that is made, inside or not
 pub stored : (l : List ℕ) (i v : ℕ) {k : ℕ} {l′ : List ℕ} → after k l′ ≡ storeOf i v l → l′ ≡ set l i v
@@ -90,7 +92,8 @@ module _ (pool map : List ℕ) (n k v at : ℕ) {leaf : ℕ} (free : leaf ≡ fr
   grow-made h {r = r} {p = p} l e s f = rw (← free, lt-ltb leaf n h, ← f, stored p at r s, l, e)
 
 -- ---- the split of a reference
-split-length : (n : ℕ) (s : Cleft) (leaf node k v : ℕ) (target : Target) → 20 + length (targetHeader n s target) ≡ length (splitStores n s leaf node k v target)
+split-length : (n : ℕ) (s : Cleft) (leaf node k v : ℕ) (target : Target)
+    → 20 + length (targetHeader n s target) ≡ length (putStores (cleaving n s leaf node k v target))
 split-length n s leaf node k v ALeaf = sym (leaf-split-count n s leaf node k v)
 split-length n s leaf node k v (ANode j b) = sym (node-split-count n s leaf node k v j b)
 
@@ -103,13 +106,14 @@ unfolding made
 last-made w x pool = refl
 
 split-stored : (n : ℕ) (s : Cleft) (leaf node k v : ℕ) (target : Target) (pool : List ℕ)
-    → made (splitStores n s leaf node k v target) pool
+    → made (putStores (cleaving n s leaf node k v target)) pool
     ≡ set (made (targetHeader n s target) (made (block (nodeWord n node) (headerOf (s .depth) (s .diff - s .depth) k ∷ tab 16 (splitChild s leaf k))) (made (block (leafWord leaf) (k ∷ v ∷ [])) pool))) (s .at) (nodeRef node)
 split-stored n s leaf node k v target pool =
     let a : List Store = block (leafWord leaf) (k ∷ v ∷ []) in
     let b : List Store = block (nodeWord n node) (headerOf (s .depth) (s .diff - s .depth) k ∷ tab 16 (splitChild s leaf k)) in
     let c : List Store = targetHeader n s target in
-    made-append (a ++ b ++ c) (store (s .at) (nodeRef node) ∷ []) pool
+    ap (λ o. made (putStores o) pool) (cleaving-is n s leaf node k v target)
+    ∙ made-append (a ++ b ++ c) (store (s .at) (nodeRef node) ∷ []) pool
     ∙ last-made (s .at) (nodeRef node) (made (a ++ b ++ c) pool)
     ∙ ap (λ (l : List ℕ). set l (s .at) (nodeRef node)) (made-append (a ++ b) c pool ∙ ap (made c) (made-append a b pool))
 
