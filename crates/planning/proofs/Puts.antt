@@ -23,7 +23,7 @@ use Rattle.walk.specs.declared.End.the-variants.{AtLeaf, AtEmpty, Stopped, Dama
 use Rattle.walk.specs.declared.Lowest.{Lowest}
 use Rattle.walk.specs.declared.Lowest.the-variants.{Key, NoKey}
 use Rattle.walk.proofs.End.{the-type}
-use Rattle.walk.proofs.Ends.{walk-inside, Stops, walk-last}
+use Rattle.walk.proofs.Ends.{walk-inside, walk-same, Stops, walk-last}
 use Rattle.plan.specs.Plans.{Decided, refused}
 use Rattle.planning.specs.declared.splitting.Cleft.{Cleft}
 use Rattle.planning.specs.declared.splitting.Target.the-variants.{ALeaf, ANode}
@@ -125,6 +125,12 @@ module _ (pool : List ℕ) {n : ℕ} (k : ℕ) {i x : ℕ} (l : i < n) (key : x 
 
   pub key-other : {p : Place} → (x ≡ k → ⊥) → Leads n k p (λ map v. besideOf pool map n k v 0 0 x) → Leads n k p (λ map v. leafPut pool map n k v i)
   key-other h b = record { able = b .able; plans = λ map v. rw (← key, ne-eqb x k h) (b .plans map v) }
+
+  -- the keys part past every node of the walk: the second walk would come to the leaf again
+  pub leaf-apart-here : Sized pool n → {s : Spot} {f : ℕ} {c : Cleft} → (x ≡ k → ⊥) → walkOf pool n k ≡ AtLeaf s i → f ≡ firstDiff k x → (f ≡ 16 → ⊥)
+      → s .depth ≤ f → c ≡ cleftAt pool x f s → Leads n k (Apart c ALeaf) (λ map v. leafPut pool map n k v i)
+  leaf-apart-here z {s} {f} h w first differ d g =
+      key-other h (leaf-apart (record { sized = z; first = first; differ = differ; walks = walk-same pool n k f (sym w) tt d }) 0 0 refl g)
 
 -- ---- the walk ended at an empty reference
 module _ (pool : List ℕ) (n k : ℕ) (s : Spot) where

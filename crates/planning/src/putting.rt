@@ -90,13 +90,21 @@ fn beside(pool: &[u64], n: usize, key: u64, last: usize, gap: usize, near: u64) 
 }
 
 // The walk ended at leaf i.
-fn beside_leaf(pool: &[u64], n: usize, key: u64, i: usize) -> Place
-    requires { ⌜ Sized (now pool) n × (i < n) ⌝ }
+fn beside_leaf(pool: &[u64], n: usize, key: u64, s: Spot, i: usize) -> Place
+    requires { ⌜ Sized (now pool) n × (walkOf (now pool) n key ≡ End.AtLeaf s i) × (i < n) × (s .at < length (now pool)) ⌝ }
     ensures { λ r. ⌜ Leads n key r (λ map v. leafPut (now (pool .entry)) map n key v i) ⌝ }
 {
     let near = pool::leaf_key(pool, n, i);
     if near == key {
         return Place::Held(i);
+    }
+    let f = digits::first_diff(key, near);
+    if f == Header::DIGITS {
+        return Place::Refused(2);
+    }
+    // Every node of the walk branches before f: no second walk need find the leaf again.
+    if s.depth <= f {
+        return Place::Apart(cleft(pool, s, near, f), Target::ALeaf);
     }
     beside(pool, n, key, 0, 0, near)
 }
@@ -126,8 +134,8 @@ pub fn find_place(pool: &[u64], n: usize, key: u64) -> Place
     ensures { λ r. ⌜ Leads n key r (λ map v. putAt (now (pool .entry)) map n key v (walkOf (now (pool .entry)) n key)) ⌝ }
 {
     let end = walk::walk(pool, n, key);
-    if let End::AtLeaf(_, i) = end {
-        return beside_leaf(pool, n, key, i);
+    if let End::AtLeaf(s, i) = end {
+        return beside_leaf(pool, n, key, s, i);
     }
     let End::AtEmpty(s) = end else {
         return Place::Refused(2);

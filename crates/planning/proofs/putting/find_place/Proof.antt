@@ -16,7 +16,9 @@ enum-known-end c = search needs
 beside-leaf-requires : tie.Need-beside-leaf-requires
 beside-leaf-requires c κs =
     let z = c .before .before .before .before .before .pre in
-    (z, walk-inside z _ 16 (sym (c .before .end .given .1) ∙ c .before .before .before .walk .ensures) .within)
+    let e = sym (c .before .end .given .1) ∙ c .before .before .before .walk .ensures in
+    let i = walk-inside z _ 16 e in
+    (z, sym e, i .within, omega (arith, i .inside .at<))
 
 returns : tie.Need-returns
 returns c = ends-lead (c .before .before .before .before .before .before .args .pool .now) _ _ (c .before .before .before .before .walk .ensures) (c .before .before .end .given .1) (c .beside-leaf .ensures)
