@@ -2,6 +2,7 @@
 mod bytes;
 mod turns;
 
+pub use bytes::LINE;
 pub use bytes::Progress;
 pub use bytes::finish;
 pub use bytes::run;

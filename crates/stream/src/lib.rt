@@ -3,6 +3,7 @@ ghost use Prim.Native.Nat.{_≤_};
 ghost use lib.ListN.{length};
 ghost use Rattle.session.specs.Bytes.{most};
 use script::Reader;
+use session::LINE;
 
 // Where the answers go: they are written to a descriptor, or held against what is read from it.
 pub enum Sink {
@@ -22,9 +23,6 @@ pub enum Passed {
     On(Reader),
     Stopped,
 }
-
-// Bytes of a line that are kept: one more than a right line can have, so that a longer one is seen to be too long.
-const LINE: usize = 64;
 
 // Whether the next bytes of a descriptor are these. `space` is as long as the text.
 fn reads_as(fd: i32, text: &[u8], space: &mut [u8]) -> bool {
@@ -66,7 +64,7 @@ fn pass(
     sink: Sink,
     reader: Reader,
     input: &[u8],
-    line: &mut [u8],
+    line: &mut [u8; LINE],
     pool: &mut [u64],
     map: &mut [u8],
     page: &mut [u8],
@@ -92,7 +90,7 @@ fn pass(
 fn close(
     sink: Sink,
     reader: Reader,
-    line: &[u8],
+    line: &[u8; LINE],
     pool: &mut [u64],
     map: &mut [u8],
     page: &mut [u8],

@@ -17,7 +17,7 @@ part-hand-on-start : tie.Need-part-hand-on-start
 part-hand-on-start c = search needs
 
 part-hand-on-end : tie.Need-part-hand-on-end
-part-hand-on-end c = let a = c .before .before .before .before .before .before .before .before .before .before .before .before .before .before .before .args in
+part-hand-on-end c = let a = c .before .before .before .before .before .before .before .before .before .before .before .before .before .before .args in
     let f = end-comes (stream (a .reader) (a .line .now) (a .pool .now) (a .map .now) (page (a .page .now) 0)) _ (c .before .before .before .before .before .before .before .finish .ensures) (omega arith) in
     omega (arith, f)
 

@@ -7,7 +7,7 @@ use Rattle.stream.proofs.play.Tie as tie
 
 abbrev Inv-loop : tie.InvT-loop
 Inv-loop source sink pool₀ map₀ line₀ input₀ page₀ reader₀ turns₀ pool map line input page reader turns =
-    (length pool ≡ length pool₀) × (length map ≡ length map₀) × (length line ≡ 64) × (length input ≡ 65536) × (length page ≡ 65536)
+    (length pool ≡ length pool₀) × (length map ≡ length map₀) × (length input ≡ 65536) × (length page ≡ 65536)
 
 abbrev μ-loop : tie.MeasureT-loop
 μ-loop source sink pool₀ map₀ line₀ input₀ page₀ reader₀ turns₀ pool map line input page reader turns = turns
@@ -57,9 +57,6 @@ part-pass-end c = search needs
 slice-aggregate-pass : tie.Need-slice-aggregate-pass Inv-loop μ-loop
 slice-aggregate-pass c = search needs
 
-slice-aggregate-pass-2 : tie.Need-slice-aggregate-pass-2 Inv-loop μ-loop
-slice-aggregate-pass-2 c = search needs
-
 pass-requires : tie.Need-pass-requires Inv-loop μ-loop
 pass-requires c κs = search needs
 
@@ -89,9 +86,6 @@ loop-again c = search needs
 
 slice-aggregate-close : tie.Need-slice-aggregate-close Inv-loop μ-loop
 slice-aggregate-close c = search needs
-
-slice-aggregate-close-2 : tie.Need-slice-aggregate-close-2 Inv-loop μ-loop
-slice-aggregate-close-2 c = search needs
 
 close-requires : tie.Need-close-requires Inv-loop μ-loop
 close-requires c κs = search needs
@@ -135,7 +129,6 @@ play-spec =
     part-pass-start
     part-pass-end
     slice-aggregate-pass
-    slice-aggregate-pass-2
     pass-requires
     enum-known-next
     enum-told
@@ -146,7 +139,6 @@ play-spec =
     loop-less
     loop-again
     slice-aggregate-close
-    slice-aggregate-close-2
     close-requires
     same-length-5
     same-length-6

@@ -21,12 +21,9 @@ same-length-2 c = search needs
 same-length-3 : tie.Need-same-length-3
 same-length-3 c = search needs
 
-same-length-4 : tie.Need-same-length-4
-same-length-4 c = search needs
-
 returns : tie.Need-returns
-returns c = let a = c .before .before .before .before .before .before .before .before .before .before .before .before .before .before .before .before .before .before .before .args in
-    byte-taken (a .byte) (stream (a .reader) (a .line .now) (a .pool .now) (a .map .now) (page (a .out .now) (a .at))) _ _ _ (c .before .before .before .before .before .before .before .before .before .before .before .before .before .take .ensures) (c .before .before .before .before .before .before .perform .ensures)
+returns c = let a = c .before .before .before .before .before .before .before .before .before .before .before .before .before .before .before .before .args in
+    byte-taken (a .byte) (stream (a .reader) (a .line .now) (a .pool .now) (a .map .now) (page (a .out .now) (a .at))) _ _ _ (c .before .before .before .before .before .before .before .before .before .before .before .take .ensures) (c .before .before .before .before .before .before .perform .ensures)
 
 pub take-spec : {M : Type 1} → statement M
 take-spec =
@@ -37,5 +34,4 @@ take-spec =
     same-length
     same-length-2
     same-length-3
-    same-length-4
     returns)
