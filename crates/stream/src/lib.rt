@@ -3,7 +3,9 @@ ghost use Prim.Native.Nat.{_≤_};
 ghost use lib.ListN.{length};
 ghost use Rattle.session.specs.Bytes.{most};
 use script::Reader;
+use session::BYTES;
 use session::LINE;
+use session::WORDS;
 
 // Where the answers go: they are written to a descriptor, or held against what is read from it.
 pub enum Sink {
@@ -105,7 +107,7 @@ fn close(
 }
 
 // Runs a session on all that can be read from `source`. A loop that is proved to end counts its turns down, from a number that no run uses up.
-pub fn play(source: i32, sink: Sink, pool: &mut [u64], map: &mut [u8]) -> End {
+pub fn play(source: i32, sink: Sink, pool: &mut [u64; WORDS], map: &mut [u8; BYTES]) -> End {
     let mut line = [0u8; LINE];
     let mut input = io::large_buffer();
     let mut page = io::large_buffer();
