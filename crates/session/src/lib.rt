@@ -9,5 +9,6 @@ pub use bytes::finish;
 pub use bytes::run;
 pub use starting::BYTES;
 pub use starting::WORDS;
+pub use starting::blank_line;
 pub use starting::start;
 pub use turns::perform;

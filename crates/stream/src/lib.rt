@@ -108,7 +108,7 @@ fn close(
 
 // Runs a session on all that can be read from `source`. A loop that is proved to end counts its turns down, from a number that no run uses up.
 pub fn play(source: i32, sink: Sink, pool: &mut [u64; WORDS], map: &mut [u8; BYTES]) -> End {
-    let mut line = [0u8; LINE];
+    let mut line = session::blank_line();
     let mut input = io::large_buffer();
     let mut page = io::large_buffer();
     let mut reader = Reader::new();

@@ -12,6 +12,9 @@ Inv-loop source sink pool₀ map₀ line₀ input₀ page₀ reader₀ turns₀ 
 abbrev μ-loop : tie.MeasureT-loop
 μ-loop source sink pool₀ map₀ line₀ input₀ page₀ reader₀ turns₀ pool map line input page reader turns = turns
 
+blank-line-requires : tie.Need-blank-line-requires Inv-loop μ-loop
+blank-line-requires c κs = search needs
+
 large-buffer-requires : tie.Need-large-buffer-requires Inv-loop μ-loop
 large-buffer-requires c κs = search needs
 
@@ -90,6 +93,7 @@ play-spec =
     (tie.spec
     Inv-loop
     μ-loop
+    blank-line-requires
     large-buffer-requires
     large-buffer-requires-2
     new-requires
