@@ -7,7 +7,7 @@ use stream::Sink;
 fn main() {
     let mut pool = [0u64; 4849];
     let mut map = [0u8; 511];
-    writing::format(&mut pool, &mut map, 256);
+    session::start(&mut pool, &mut map);
     match stream::play(
         STDIN_FILENO,
         Sink::Write(STDOUT_FILENO),

@@ -30,7 +30,7 @@ fn say(script: &[u8], what: &[u8]) {
 fn run(script: &[u8], source: i32, expected: i32) {
     let mut pool = [0u64; 4849];
     let mut map = [0u8; 511];
-    writing::format(&mut pool, &mut map, 256);
+    session::start(&mut pool, &mut map);
     match stream::play(source, Sink::Compare(expected), &mut pool, &mut map) {
         End::Whole => say(script, b" answers as expected\n"),
         End::NotRead => say(script, b" is not read\n"),

@@ -2,3 +2,4 @@ pub mod Pages
 pub mod Runs
 pub mod Texts
 pub mod Prints
+pub mod Starts

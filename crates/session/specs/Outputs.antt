@@ -28,10 +28,14 @@ unfoldable pub textsOf : List Answer → List ℕ
 textsOf [] = []
 textsOf (a ∷ answers) = textOf a ++ textsOf answers
 
+-- "formatted with N = 256"
+abbrev pub startedIn : List ℕ → List ℕ → Formatted
+startedIn pool map = formatOf pool map 256
+
 -- "starts with a pool of 4,849 words, all zero, formatted with N = 256"
 abbrev pub started : Session
 started =
-    let f : Formatted = formatOf (replicate 4849 0) (replicate 511 0) 256 in
+    let f : Formatted = startedIn (replicate 4849 0) (replicate 511 0) in
     record { reader = begun; line = replicate 64 0; memory = memory (f .pool) (f .map) }
 
 abbrev pub output : List ℕ → List ℕ

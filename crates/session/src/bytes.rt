@@ -9,6 +9,9 @@ use script::Reader;
 // Bytes that a turn prints, at most: 256 entries of 40 bytes, and their count, which is 23.
 const MOST: usize = 10263;
 
+// Bytes of a line that are kept: one more than a right line can have, so that a longer one is seen to be too long.
+pub const LINE: usize = 64;
+
 // The reader after a byte, and up to where the page is filled then.
 pub struct Step {
     pub reader: Reader,
@@ -26,7 +29,7 @@ pub struct Progress {
 fn take(
     reader: Reader,
     byte: u8,
-    line: &mut [u8],
+    line: &mut [u8; LINE],
     pool: &mut [u64],
     map: &mut [u8],
     out: &mut [u8],
@@ -55,7 +58,7 @@ fn has_room(out: &[u8], at: usize) -> bool
 pub fn run(
     reader: Reader,
     input: &[u8],
-    line: &mut [u8],
+    line: &mut [u8; LINE],
     pool: &mut [u64],
     map: &mut [u8],
     out: &mut [u8],
@@ -81,7 +84,7 @@ pub fn run(
 // Takes the end of the input: the last line may lack its newline.
 pub fn finish(
     reader: Reader,
-    line: &[u8],
+    line: &[u8; LINE],
     pool: &mut [u64],
     map: &mut [u8],
     out: &mut [u8],

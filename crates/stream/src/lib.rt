@@ -3,6 +3,9 @@ ghost use Prim.Native.Nat.{_≤_};
 ghost use lib.ListN.{length};
 ghost use Rattle.session.specs.Bytes.{most};
 use script::Reader;
+use session::BYTES;
+use session::LINE;
+use session::WORDS;
 
 // Where the answers go: they are written to a descriptor, or held against what is read from it.
 pub enum Sink {
@@ -22,9 +25,6 @@ pub enum Passed {
     On(Reader),
     Stopped,
 }
-
-// Bytes of a line that are kept: one more than a right line can have, so that a longer one is seen to be too long.
-const LINE: usize = 64;
 
 // Whether the next bytes of a descriptor are these. `space` is as long as the text.
 fn reads_as(fd: i32, text: &[u8], space: &mut [u8]) -> bool {
@@ -66,7 +66,7 @@ fn pass(
     sink: Sink,
     reader: Reader,
     input: &[u8],
-    line: &mut [u8],
+    line: &mut [u8; LINE],
     pool: &mut [u64],
     map: &mut [u8],
     page: &mut [u8],
@@ -92,7 +92,7 @@ fn pass(
 fn close(
     sink: Sink,
     reader: Reader,
-    line: &[u8],
+    line: &[u8; LINE],
     pool: &mut [u64],
     map: &mut [u8],
     page: &mut [u8],
@@ -107,8 +107,8 @@ fn close(
 }
 
 // Runs a session on all that can be read from `source`. A loop that is proved to end counts its turns down, from a number that no run uses up.
-pub fn play(source: i32, sink: Sink, pool: &mut [u64], map: &mut [u8]) -> End {
-    let mut line = [0u8; LINE];
+pub fn play(source: i32, sink: Sink, pool: &mut [u64; WORDS], map: &mut [u8; BYTES]) -> End {
+    let mut line = session::blank_line();
     let mut input = io::large_buffer();
     let mut page = io::large_buffer();
     let mut reader = Reader::new();

@@ -17,9 +17,11 @@ part-hand-on-start : tie.Need-part-hand-on-start
 part-hand-on-start c = search needs
 
 part-hand-on-end : tie.Need-part-hand-on-end
-part-hand-on-end c = let a = c .before .before .before .before .before .before .before .before .before .before .before .before .before .before .before .args in
-    let f = end-comes (stream (a .reader) (a .line .now) (a .pool .now) (a .map .now) (page (a .page .now) 0)) _ (c .before .before .before .before .before .before .before .finish .ensures) (omega arith) in
-    omega (arith, f)
+part-hand-on-end c =
+    let f = c .before .before .before .before .before .before .before in
+    let a = f .before .before .before .before .before .before .before .args in
+    let s = stream (a .reader) (a .line .now) (a .pool .now) (a .map .now) (page (a .page .now) 0) in
+    omega (arith, end-comes s _ (f .finish .ensures) (omega arith))
 
 hand-on-requires : tie.Need-hand-on-requires
 hand-on-requires c κs = search needs

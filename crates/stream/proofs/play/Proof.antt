@@ -7,10 +7,13 @@ use Rattle.stream.proofs.play.Tie as tie
 
 abbrev Inv-loop : tie.InvT-loop
 Inv-loop source sink pool₀ map₀ line₀ input₀ page₀ reader₀ turns₀ pool map line input page reader turns =
-    (length pool ≡ length pool₀) × (length map ≡ length map₀) × (length line ≡ 64) × (length input ≡ 65536) × (length page ≡ 65536)
+    (length input ≡ 65536) × (length page ≡ 65536)
 
 abbrev μ-loop : tie.MeasureT-loop
 μ-loop source sink pool₀ map₀ line₀ input₀ page₀ reader₀ turns₀ pool map line input page reader turns = turns
+
+blank-line-requires : tie.Need-blank-line-requires Inv-loop μ-loop
+blank-line-requires c κs = search needs
 
 large-buffer-requires : tie.Need-large-buffer-requires Inv-loop μ-loop
 large-buffer-requires c κs = search needs
@@ -29,12 +32,6 @@ slice-aggregate-read c = search needs
 
 read-requires : tie.Need-read-requires Inv-loop μ-loop
 read-requires c κs = search needs
-
-same-length : tie.Need-same-length Inv-loop μ-loop
-same-length c = search needs
-
-same-length-2 : tie.Need-same-length-2 Inv-loop μ-loop
-same-length-2 c = search needs
 
 returns : tie.Need-returns Inv-loop μ-loop
 returns c = search needs
@@ -57,9 +54,6 @@ part-pass-end c = search needs
 slice-aggregate-pass : tie.Need-slice-aggregate-pass Inv-loop μ-loop
 slice-aggregate-pass c = search needs
 
-slice-aggregate-pass-2 : tie.Need-slice-aggregate-pass-2 Inv-loop μ-loop
-slice-aggregate-pass-2 c = search needs
-
 pass-requires : tie.Need-pass-requires Inv-loop μ-loop
 pass-requires c κs = search needs
 
@@ -68,12 +62,6 @@ enum-known-next c = search needs
 
 enum-told : tie.Need-enum-told Inv-loop μ-loop
 enum-told c = search needs
-
-same-length-3 : tie.Need-same-length-3 Inv-loop μ-loop
-same-length-3 c = search needs
-
-same-length-4 : tie.Need-same-length-4 Inv-loop μ-loop
-same-length-4 c = search needs
 
 returns-2 : tie.Need-returns-2 Inv-loop μ-loop
 returns-2 c = search needs
@@ -90,26 +78,11 @@ loop-again c = search needs
 slice-aggregate-close : tie.Need-slice-aggregate-close Inv-loop μ-loop
 slice-aggregate-close c = search needs
 
-slice-aggregate-close-2 : tie.Need-slice-aggregate-close-2 Inv-loop μ-loop
-slice-aggregate-close-2 c = search needs
-
 close-requires : tie.Need-close-requires Inv-loop μ-loop
 close-requires c κs = search needs
 
-same-length-5 : tie.Need-same-length-5 Inv-loop μ-loop
-same-length-5 c = search needs
-
-same-length-6 : tie.Need-same-length-6 Inv-loop μ-loop
-same-length-6 c = search needs
-
 returns-3 : tie.Need-returns-3 Inv-loop μ-loop
 returns-3 c = search needs
-
-same-length-7 : tie.Need-same-length-7 Inv-loop μ-loop
-same-length-7 c = search needs
-
-same-length-8 : tie.Need-same-length-8 Inv-loop μ-loop
-same-length-8 c = search needs
 
 returns-4 : tie.Need-returns-4 Inv-loop μ-loop
 returns-4 c = search needs
@@ -120,14 +93,13 @@ play-spec =
     (tie.spec
     Inv-loop
     μ-loop
+    blank-line-requires
     large-buffer-requires
     large-buffer-requires-2
     new-requires
     loop-holds
     slice-aggregate-read
     read-requires
-    same-length
-    same-length-2
     returns
     slice-aggregate-count
     count-requires
@@ -135,22 +107,14 @@ play-spec =
     part-pass-start
     part-pass-end
     slice-aggregate-pass
-    slice-aggregate-pass-2
     pass-requires
     enum-known-next
     enum-told
-    same-length-3
-    same-length-4
     returns-2
     sub-turns
     loop-less
     loop-again
     slice-aggregate-close
-    slice-aggregate-close-2
     close-requires
-    same-length-5
-    same-length-6
     returns-3
-    same-length-7
-    same-length-8
     returns-4)

@@ -12,14 +12,14 @@ use Rattle.session.proofs.bytes.run.Tie as tie
 
 abbrev Inv-loop : tie.InvT-loop
 Inv-loop input line₀ pool₀ map₀ out₀ next₀ end₀ used₀ line pool map out next end used =
-    (length line ≡ length line₀) × (length pool ≡ length pool₀) × (length map ≡ length map₀) × (length out ≡ length out₀)
+    (length pool ≡ length pool₀) × (length map ≡ length map₀) × (length out ≡ length out₀)
     × (rest used input (stream next line pool map (page out end)) ≡ runOf input (stream next₀ line₀ pool₀ map₀ (page out₀ 0)))
 
 abbrev μ-loop : tie.MeasureT-loop
 μ-loop input line₀ pool₀ map₀ out₀ next₀ end₀ used₀ line pool map out next end used = length input - used
 
 loop-holds : tie.Need-loop-holds Inv-loop μ-loop
-loop-holds c = (refl, refl, refl, refl, run-begun _ _)
+loop-holds c = (refl, refl, refl, run-begun _ _)
 
 has-room-requires : tie.Need-has-room-requires Inv-loop μ-loop
 has-room-requires c κs = search needs
@@ -37,7 +37,15 @@ loop-less : tie.Need-loop-less Inv-loop μ-loop
 loop-less c = search needs
 
 loop-again : tie.Need-loop-again Inv-loop μ-loop
-loop-again c = (omega arith, omega arith, omega arith, omega arith, run-on _ _ _ _ (c .before .before .before .before .before .before .before .before .before .before .before .before .before .before .before .before .before .before .loop-test .taken) (sym (c .before .before .before .before .before .before .before .before .before .before .before .before .before .before .before .before .has-room .ensures) ∙ c .before .before .before .before .before .before .before .before .before .before .before .before .before .before .before .if1 .taken) (c .before .before .before .before .before .before .before .before .before .take .ensures) ∙ c .before .before .before .before .before .before .before .before .before .before .before .before .before .before .before .before .before .before .before .loop .inv .4)
+loop-again c =
+    let t = c .before .before .before .before .before .before .before in
+    let r = t .before .before .before .before .before .before in (
+      omega arith,
+      omega arith,
+      omega arith,
+      run-on _ _ _ _ (r .before .before .before .loop-test .taken) (sym (r .before .has-room .ensures) ∙ r .if1 .taken) (t .take .ensures)
+          ∙ r .before .before .before .before .loop .inv .3,
+    )
 
 same-length : tie.Need-same-length Inv-loop μ-loop
 same-length c = search needs
@@ -48,11 +56,11 @@ same-length-2 c = search needs
 same-length-3 : tie.Need-same-length-3 Inv-loop μ-loop
 same-length-3 c = search needs
 
+returns : tie.Need-returns Inv-loop μ-loop
+returns c = run-full _ _ _ (sym (c .before .has-room .ensures) ∙ c .if1 .left) ∙ c .before .before .before .before .loop .inv .3
+
 same-length-4 : tie.Need-same-length-4 Inv-loop μ-loop
 same-length-4 c = search needs
-
-returns : tie.Need-returns Inv-loop μ-loop
-returns c = run-full _ _ _ (sym (c .before .has-room .ensures) ∙ c .if1 .left) ∙ c .before .before .before .before .loop .inv .4
 
 same-length-5 : tie.Need-same-length-5 Inv-loop μ-loop
 same-length-5 c = search needs
@@ -60,14 +68,8 @@ same-length-5 c = search needs
 same-length-6 : tie.Need-same-length-6 Inv-loop μ-loop
 same-length-6 c = search needs
 
-same-length-7 : tie.Need-same-length-7 Inv-loop μ-loop
-same-length-7 c = search needs
-
-same-length-8 : tie.Need-same-length-8 Inv-loop μ-loop
-same-length-8 c = search needs
-
 returns-2 : tie.Need-returns-2 Inv-loop μ-loop
-returns-2 c = run-ended _ _ _ (c .loop-test .left) ∙ c .before .loop .inv .4
+returns-2 c = run-ended _ _ _ (c .loop-test .left) ∙ c .before .loop .inv .3
 
 pub run-spec : {M : Type 1} → statement M
 run-spec =
@@ -85,10 +87,8 @@ run-spec =
     same-length
     same-length-2
     same-length-3
-    same-length-4
     returns
+    same-length-4
     same-length-5
     same-length-6
-    same-length-7
-    same-length-8
     returns-2)

@@ -21,12 +21,13 @@ same-length-2 c = search needs
 same-length-3 : tie.Need-same-length-3
 same-length-3 c = search needs
 
-same-length-4 : tie.Need-same-length-4
-same-length-4 c = search needs
-
 returns : tie.Need-returns
-returns c = let a = c .before .before .before .before .before .before .before .before .before .before .before .before .before .before .before .before .before .before .before .args in
-    byte-taken (a .byte) (stream (a .reader) (a .line .now) (a .pool .now) (a .map .now) (page (a .out .now) (a .at))) _ _ _ (c .before .before .before .before .before .before .before .before .before .before .before .before .before .take .ensures) (c .before .before .before .before .before .before .perform .ensures)
+returns c =
+    let p = c .before .before .before .before .before .before in
+    let t = p .before .before .before .before .before in
+    let a = t .before .before .before .before .before .args in
+    let s = stream (a .reader) (a .line .now) (a .pool .now) (a .map .now) (page (a .out .now) (a .at)) in
+    byte-taken (a .byte) s _ _ _ (t .take .ensures) (p .perform .ensures)
 
 pub take-spec : {M : Type 1} → statement M
 take-spec =
@@ -37,5 +38,4 @@ take-spec =
     same-length
     same-length-2
     same-length-3
-    same-length-4
     returns)
