@@ -20,7 +20,7 @@ use Rattle.tree.specs.Stores.{Store, run, Part, done, made as kept, lost}
 use Rattle.tree.proofs.Basics.{Same?, same, other, same?}
 use Rattle.tree.proofs.Stores.{Words, words-part, part-all, part-none, part-take}
 use Rattle.layout.specs.Layout.{Held}
-use Rattle.layout.specs.Operations.{Switches}
+use Rattle.layout.specs.Switches.{Switches}
 use Rattle.plan.specs.Plans.{made, finishOf, Decided, decided, refused as refusal}
 use Rattle.plan.specs.Effects.{takes, frees, Inside}
 use Rattle.plan.specs.declared.Effect.{Effect}

@@ -11,7 +11,7 @@ use Rattle.tree.specs.Shape.{Mem}
 use Rattle.tree.specs.Stores.{Store, run}
 use Rattle.tree.proofs.Stores.{part-take}
 use Rattle.layout.specs.Layout.{Held}
-use Rattle.layout.specs.Operations.{Switches}
+use Rattle.layout.specs.Switches.{Switches}
 
 module _ (D N : ℕ) (m : Mem) (σ : List Store) (s : Store) (ρ : List Store) (t : Tree ℕ) (Becomes : Tree ℕ → Type 0) (S : Switches D N m σ s ρ t Becomes) where
   pub cut-before : (n : ℕ) → n ≤ length σ → Held D N (run (take n (σ ++ s ∷ ρ)) m) t

@@ -18,7 +18,8 @@ use Rattle.tree.proofs.Stores.{part-nil}
 use Rattle.tree.proofs.Frame.{held-earlier}
 use Rattle.tree.proofs.Delete.{empty-clears, child-dropped-good, bypass-good, bypass-clears, leaf-removed}
 use Rattle.layout.specs.Layout.{base, Held, refAt}
-use Rattle.layout.specs.Operations.{store, headerStore, Deleting, emptying, bypassing, lifting, Drops, Deletes}
+use Rattle.layout.specs.Operations.{store, headerStore, Deleting, emptying, bypassing, lifting}
+use Rattle.layout.specs.Switches.{Drops, Deletes}
 use Rattle.layout.proofs.Base.{none-seen}
 use Rattle.layout.proofs.Held.{held, ref-child, holds-at, good-at}
 use Rattle.layout.proofs.Changes.{switched}

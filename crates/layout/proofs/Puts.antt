@@ -17,7 +17,8 @@ use Rattle.tree.proofs.Places.{Child, child, agree-down, good-plug}
 use Rattle.tree.proofs.Stores.{Words, words-part, words-more, words-block, run-off, run-append, block-first, block-at, part-all, part-nil}
 use Rattle.tree.proofs.Put.{adds-below, value-adds, leaf-adds}
 use Rattle.layout.specs.Layout.{own, base, Held, refAt}
-use Rattle.layout.specs.Operations.{store, leafStores, replacing, growing, Puts}
+use Rattle.layout.specs.Operations.{store, leafStores, replacing, growing}
+use Rattle.layout.specs.Switches.{Puts}
 use Rattle.layout.proofs.Base.{ref-leaf, SeesLeaf, sees, leaf-seen, own-root, own-leaf}
 use Rattle.layout.proofs.Held.{held, ref-child, good-at, leaf-slot}
 use Rattle.layout.proofs.Changes.{kept, amended, switched}

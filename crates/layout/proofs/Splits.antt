@@ -19,7 +19,8 @@ use Rattle.tree.proofs.Near.{Past}
 use Rattle.tree.proofs.Stores.{Words, words-more, words-append, words-block, run-off, run-append, block-off, block-first, block-at, length-tab, tab-at, part-all, part-nil, part-append}
 use Rattle.tree.proofs.Put.{past-filled, past-good, splitTree, split-holds, split-filled, split-good, split-adds}
 use Rattle.layout.specs.Layout.{own, headView, base, Held, refAt}
-use Rattle.layout.specs.Operations.{leafStores, splitChildren, nodeStores, targetStore, splitting, splittingLeaf, splittingNode, Puts}
+use Rattle.layout.specs.Operations.{leafStores, splitChildren, nodeStores, targetStore, splitting, splittingLeaf, splittingNode}
+use Rattle.layout.specs.Switches.{Puts}
 use Rattle.layout.proofs.Base.{ref-node, SeesNode, node-seen, none-seen, own-leaf, own-node, own-slot}
 use Rattle.layout.proofs.Held.{sub-holds, holds-at, good-at, node-slot}
 use Rattle.layout.proofs.Changes.{ref-owner}

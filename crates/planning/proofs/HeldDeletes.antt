@@ -21,7 +21,8 @@ use Rattle.tree.proofs.Basics.{Same?, same, other, same?, less?}
 use Rattle.tree.proofs.Places.{child, by-place}
 use Rattle.tree.proofs.Near.{of-two, low-agrees, stands-found}
 use Rattle.layout.specs.Layout.{Held, base, refAt}
-use Rattle.layout.specs.Operations.{Deleting, deleteStores, emptying, bypassing, lifting, Deletes, Drops}
+use Rattle.layout.specs.Operations.{Deleting, deleteStores, emptying, bypassing, lifting}
+use Rattle.layout.specs.Switches.{Deletes, Drops}
 use Rattle.layout.proofs.Held.{holds-at, good-at}
 use Rattle.layout.proofs.Deletes.{drops-root, drops-child, drops-bypass, drops-bypass-node, deletes}
 use Rattle.walk.specs.Walks.{root, below, childrenOf}

@@ -25,7 +25,8 @@ use Rattle.tree.proofs.Places.{child}
 use Rattle.tree.proofs.Near.{Past, Gap, Placed, placed, lowest, filled-is, not-filled, stands-found}
 use Rattle.tree.proofs.Stores.{Words, words-append, words-block}
 use Rattle.layout.specs.Layout.{Held, base, refAt}
-use Rattle.layout.specs.Operations.{Putting, putStores, Puts, leafStores, nodeStores, replacing, growing}
+use Rattle.layout.specs.Operations.{Putting, putStores, leafStores, nodeStores, replacing, growing}
+use Rattle.layout.specs.Switches.{Puts}
 use Rattle.layout.proofs.Held.{holds-at, good-at}
 use Rattle.layout.proofs.Puts.{puts-value, puts-root, puts-child}
 use Rattle.layout.proofs.Splits.{puts-split-leaf, puts-split-node}
