@@ -35,7 +35,7 @@ use Rattle.walk.specs.declared.End.the-variants.{AtLeaf, AtEmpty, Stopped, Dama
 use Rattle.walk.specs.declared.Lowest.{Lowest}
 use Rattle.walk.specs.declared.Lowest.the-variants.{Key, NoKey}
 use Rattle.walk.proofs.Ends.{walk-inside}
-use Rattle.layout.specs.Operations.{putStores}
+use Rattle.layout.specs.Operations.{store, putStores}
 use Rattle.plan.specs.Plans.{Decided, refused, planOf, plannedOf}
 use Rattle.plan.specs.Effects.{Inside}
 use Rattle.plan.specs.declared.Plan.{Plan}
@@ -46,7 +46,7 @@ use Rattle.planning.specs.declared.splitting.Target.{Target}
 use Rattle.planning.specs.declared.splitting.Target.the-variants.{ALeaf, ANode}
 use Rattle.planning.specs.declared.splitting.Room.{Room}
 use Rattle.planning.specs.declared.splitting.Room.the-variants.{Slots, Full}
-use Rattle.planning.specs.Puts.{store, freeLeaf, growOf, splitChild, targetHeader, cleaving, roomOf, splitIn, splitOf}
+use Rattle.planning.specs.Puts.{freeLeaf, growOf, splitChild, targetHeader, cleaving, roomOf, splitIn, splitOf}
 use Rattle.planning.specs.Puts.{cleftAt, placedAt, besideOf, belowLast, putAt, putIn, putPlan}
 use Rattle.planning.specs.Deletes.{emptied, liftOf, liftAt, mergeOf, unlinkOf, deleteAt, deleteIn, deletePlan}
 use Rattle.planning.proofs.Counts.{leaf-split-count, node-split-count}

@@ -25,7 +25,7 @@ use Rattle.tree.proofs.Places.{child}
 use Rattle.tree.proofs.Near.{Past, Gap, Placed, placed, lowest, filled-is, not-filled, stands-found}
 use Rattle.tree.proofs.Stores.{Words, words-append, words-block}
 use Rattle.layout.specs.Layout.{Held, base, refAt}
-use Rattle.layout.specs.Operations.{Putting, putStores, leafStores, nodeStores, replacing, growing}
+use Rattle.layout.specs.Operations.{store, Putting, putStores, leafStores, nodeStores, replacing, growing}
 use Rattle.layout.specs.Switches.{Puts}
 use Rattle.layout.proofs.Held.{holds-at, good-at}
 use Rattle.layout.proofs.Puts.{puts-value, puts-root, puts-child}
@@ -47,7 +47,7 @@ use Rattle.held.proofs.Nearest.{way-more, near-leaf, near-empty, low-apart, Las
 use Rattle.planning.specs.declared.splitting.Cleft.{Cleft}
 use Rattle.planning.specs.declared.splitting.Target.{Target}
 use Rattle.planning.specs.declared.splitting.Target.the-variants.{ALeaf, ANode}
-use Rattle.planning.specs.Puts.{store, freeLeaf, freeNode, growOf, targetHeader, cleaving, splitOf, cleftAt}
+use Rattle.planning.specs.Puts.{freeLeaf, freeNode, growOf, targetHeader, cleaving, splitOf, cleftAt}
 use Rattle.planning.specs.Puts.{placedAt, besideOf, leafPut, emptyPut, putAt, putPlan}
 use Rattle.planning.proofs.Splits.{cleaving-is}
 use Rattle.planning.proofs.HeldRoom.{leaf-free, node-free, node-room, leaf-fewer, all-held}

@@ -14,7 +14,7 @@ use Rattle.tree.specs.Stores.{Store, block, tab}
 use Rattle.tree.proofs.Stores.{length-tab}
 use Rattle.pool.specs.Sizes.{bytesOf}
 use Rattle.pool.specs.Places.{leafWord, nodeWord, nodeRef}
-use Rattle.layout.specs.Operations.{putStores, splitting}
+use Rattle.layout.specs.Operations.{store, putStores, splitting}
 use Rattle.plan.specs.Plans.{padded, plannedOf, decided}
 use Rattle.plan.specs.declared.Planned.{Planned}
 use Rattle.plan.specs.declared.Effect.{Effect}
@@ -22,7 +22,7 @@ use Rattle.planning.specs.declared.splitting.Cleft.{Cleft}
 use Rattle.planning.specs.declared.splitting.Target.{Target}
 use Rattle.planning.specs.declared.splitting.Target.the-variants.{ALeaf, ANode}
 use Rattle.planning.specs.declared.splitting.Room.the-variants.{Slots, Full}
-use Rattle.planning.specs.Puts.{store, freeFrom, freeLeaf, freeNode, splitChild, targetHeader, cleaving, roomOf}
+use Rattle.planning.specs.Puts.{freeFrom, freeLeaf, freeNode, splitChild, targetHeader, cleaving, roomOf}
 use Rattle.planning.proofs.Arrays.{block-words, block-values, planned-by}
 use Rattle.planning.proofs.Counts.{leaf-split-count, node-split-count}
 use Rattle.planning.proofs.LowestFree.{free-found}

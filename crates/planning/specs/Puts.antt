@@ -27,9 +27,6 @@ use Rattle.planning.specs.declared.splitting.Target.the-variants.{ALeaf,
 use Rattle.planning.specs.declared.splitting.Room.{Room}
 use Rattle.planning.specs.declared.splitting.Room.the-variants.{Slots, Full}
 
-abbrev pub store : ℕ → ℕ → Store
-store i v = record { word = i; value = v }
-
 -- "New leaves and nodes are the lowest-numbered free ones." The lowest free byte of a map from one byte to another, or the other.
 abbrev pub freeFrom : List ℕ → ℕ → ℕ → ℕ
 freeFrom map from to = scan (to - from) from (λ i. eqb (getD map i 0) 0)

@@ -1,10 +1,9 @@
 -- What a removal decides: the number, the stores and the effect that the code's answer stands for.
 -- Assumes nothing.
 use mathlib.Core.List.{[], _∷_}
-use Rattle.layout.specs.Operations.{deleteStores, emptying, bypassing}
+use Rattle.layout.specs.Operations.{store, deleteStores, emptying, bypassing}
 use Rattle.plan.specs.Plans.{Decided, decided, refused}
 use Rattle.plan.specs.declared.Effect.the-variants.{FreesLeaf, FreesBoth}
-use Rattle.planning.specs.Puts.{store}
 use Rattle.planning.specs.declared.deleting.Removal.{Removal}
 use Rattle.planning.specs.declared.deleting.Removal.the-variants.{Refused, Emptied, Bypassed, Lifted}
 

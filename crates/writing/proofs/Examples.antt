@@ -13,7 +13,8 @@ use Rattle.pool.specs.Refs.{refOf}
 use Rattle.walk.specs.Walks.{headOf, walkFrom, lowestFrom}
 use Rattle.plan.specs.Plans.{made, decided, refused}
 use Rattle.plan.specs.declared.Effect.the-variants.{TakesBoth, FreesLeaf}
-use Rattle.planning.specs.Puts.{store, putPlan}
+use Rattle.layout.specs.Operations.{store}
+use Rattle.planning.specs.Puts.{putPlan}
 use Rattle.planning.specs.Deletes.{deletePlan}
 use Rattle.writing.specs.Calls.{done, left, putOf, deleteOf, formatted, formatOf}
 

@@ -14,7 +14,7 @@ use Rattle.tree.proofs.Basics.{Same?, same, other, same?, less?}
 use Rattle.tree.proofs.Stores.{length-tab}
 use Rattle.pool.specs.Places.{leafWord, nodeWord, leafRef, nodeRef}
 use Rattle.digits.specs.Headers.{headerOf}
-use Rattle.layout.specs.Operations.{putStores}
+use Rattle.layout.specs.Operations.{store, putStores}
 use Rattle.plan.specs.Plans.{Decided, decided, refused, made, After, after, storeOf, finishOf}
 use Rattle.plan.specs.declared.Effect.{Effect}
 use Rattle.plan.specs.declared.Effect.the-variants.{TakesLeaf, TakesBoth}
@@ -24,7 +24,7 @@ use Rattle.planning.specs.declared.splitting.Target.{Target}
 use Rattle.planning.specs.declared.splitting.Target.the-variants.{ALeaf, ANode}
 use Rattle.planning.specs.declared.splitting.Room.{Room}
 use Rattle.planning.specs.declared.splitting.Room.the-variants.{Slots, Full}
-use Rattle.planning.specs.Puts.{store, freeLeaf, growOf, splitChild, targetHeader, cleaving, roomOf, splitOf}
+use Rattle.planning.specs.Puts.{freeLeaf, growOf, splitChild, targetHeader, cleaving, roomOf, splitOf}
 use Rattle.writing.specs.Calls.{done, left, wholeOf}
 use Rattle.planning.proofs.Arrays.{tab-last}
 use Rattle.planning.proofs.Counts.{leaf-split-count, node-split-count}
