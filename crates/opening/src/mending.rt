@@ -168,17 +168,6 @@ fn mend(pool: &mut [u64], n: usize, map: &[u8]) -> usize
     headers
 }
 
-// Every byte becomes 0.
-fn clear(map: &mut [u8])
-    ensures { λ _. ⌜ now (map .exit) ≡ replicate (length (now (map .entry))) 0 ⌝ }
-{
-    let mut i: usize = 0;
-    while i < map.len() {
-        map[i] = 0;
-        i += 1;
-    }
-}
-
 // A mark as a byte of the map: 1 if the slot is reached.
 fn flat(mark: u8) -> u8
     ensures { λ r. ⌜ r ≡ reached mark ⌝ }
@@ -241,9 +230,9 @@ fn open_sized(pool: &mut [u64], n: usize, map: &mut [u8]) -> Opened
     requires { ⌜ Sized (now pool) n × (length (now map) ≡ bytesOf n) ⌝ }
     ensures { λ r. ⌜ left r (now (pool .exit)) (now (map .exit)) ≡ leftJudged (now (pool .entry)) (now (map .entry)) n (surveyOf (now (pool .entry)) n) ⌝ }
 {
-    clear(map);
+    plan::clear(map);
     if !survey::survey(pool, n, map) {
-        clear(map);
+        plan::clear(map);
         return refused(2);
     }
     restore(pool, n, map)

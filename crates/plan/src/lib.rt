@@ -1,7 +1,7 @@
 // Plans: at most 21 stores in order, each made by one step, and what they do to the map.
 ghost use mathlib.Core.Path.{_≡_};
 ghost use mathlib.Core.List.{[]};
-ghost use lib.ListN.{length};
+ghost use lib.ListN.{length, replicate};
 ghost use Rattle.plan.specs.Effects.{bare};
 ghost use Rattle.plan.specs.Plans.{planOf, refused, plannedOf, after, storeOf, storesOf, stepOf, finishOf, ran, runOf};
 
@@ -152,4 +152,15 @@ pub fn finish(map: &mut [u8], plan: Plan) -> u64
 {
     let effect = plan.effect;
     take_effect(map, effect)
+}
+
+// Every byte of a map becomes 0: no slot is taken.
+pub fn clear(map: &mut [u8])
+    ensures { λ _. ⌜ now (map .exit) ≡ replicate (length (now (map .entry))) 0 ⌝ }
+{
+    let mut i: usize = 0;
+    while i < map.len() {
+        map[i] = 0;
+        i += 1;
+    }
 }

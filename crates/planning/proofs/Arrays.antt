@@ -6,10 +6,8 @@ use Prim.Native.Nat.{ℕ, zero, suc, _+_, _≤_, _<_}
 use native.Mathlib.Nat.{add-zero, not-suc-le-zero, le-of-suc-le-suc}
 use native.Mathlib.Numerals.{add-one}
 use native.Mathlib.Omega.{arith}
-use lib.ListN.{length, getD, set, take, replicate, length-append, length-replicate, getD-replicate}
-use lib.Seq.{getD-set-same, getD-set-other, ext-getD}
+use lib.ListN.{length, set, take, replicate, length-append}
 use Rattle.tree.specs.Stores.{Store, block, tab}
-use Rattle.tree.proofs.Basics.{Same?, same, other, same?}
 use Rattle.tree.proofs.Stores.{length-tab}
 use Rattle.plan.specs.Plans.{padded, plannedOf, decided}
 use Rattle.plan.specs.declared.Planned.{Planned}
@@ -65,16 +63,3 @@ filled-on l f i h e g =
 pub planned-by : (σ : List Store) (e : Effect) {words values : List ℕ} {count : ℕ} → words ≡ padded (map (λ (s : Store). s .word) σ) → values ≡ padded (map (λ (s : Store). s .value) σ)
     → count ≡ length σ → _≡_ {A = Planned} (record { number = 0; plan = record { words = words; values = values; count = count; effect = e } }) (plannedOf (decided σ e))
 planned-by σ e w v c = rw (w, v, c)
-
--- ---- a map that is cleared
--- one byte more is 0
-pub zero-on : (l : List ℕ) (i : ℕ) → i < length l → ((k : ℕ) → k < i → getD l k 0 ≡ 0) → (k : ℕ) → k < i + 1 → getD (set l i 0) k 0 ≡ 0
-zero-on l i h below k g = go (same? k i)
-  where
-    go : Same? k i → getD (set l i 0) k 0 ≡ 0
-    go (same e q) = rw e (getD-set-same l i 0 0 h)
-    go (other n q) = getD-set-other l i k 0 0 n ∙ below k (omega arith)
-
-pub all-zero : (l m : List ℕ) → length l ≡ length m → ((k : ℕ) → k < length l → getD l k 0 ≡ 0) → l ≡ replicate (length m) 0
-all-zero l m e z =
-    ext-getD 0 l (replicate (length m) 0) (e ∙ sym (length-replicate (length m) 0)) (λ k h. z k h ∙ sym (getD-replicate (length m) k 0 0 (omega arith)))

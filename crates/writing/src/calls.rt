@@ -1,7 +1,6 @@
 // The whole calls: find what the call comes to, make its stores in their order, finish.
 ghost use mathlib.Core.Path.{_≡_};
 ghost use Prim.Native.Nat.{ℕ, _+_, _-_, _*_, _<_, _≤_};
-ghost use lib.ListN.{length, replicate};
 ghost use Rattle.writing.specs.Calls.{left, putOf, deleteOf, formatted, formatOf};
 use crate::making::Done;
 use crate::making::put_at;
@@ -15,16 +14,10 @@ pub fn put(pool: &mut [u64], map: &mut [u8], key: u64, value: u64) -> Done
     ensures { λ r. ⌜ left r (now (pool .exit)) (now (map .exit)) ≡ putOf (now (pool .entry)) (now (map .entry)) key value ⌝ }
 {
     let Size::Holds(n) = pool::capacity(pool) else {
-        return Done {
-            number: 1,
-            stores: 0,
-        };
+        return Done::refused(1);
     };
     if map.len() != 2 * n - 1 {
-        return Done {
-            number: 1,
-            stores: 0,
-        };
+        return Done::refused(1);
     }
     let place = find_place(pool, n, key);
     put_at(pool, map, n, key, value, place)
@@ -35,30 +28,13 @@ pub fn delete(pool: &mut [u64], map: &mut [u8], key: u64) -> Done
     ensures { λ r. ⌜ left r (now (pool .exit)) (now (map .exit)) ≡ deleteOf (now (pool .entry)) (now (map .entry)) key ⌝ }
 {
     let Size::Holds(n) = pool::capacity(pool) else {
-        return Done {
-            number: 1,
-            stores: 0,
-        };
+        return Done::refused(1);
     };
     if map.len() != 2 * n - 1 {
-        return Done {
-            number: 1,
-            stores: 0,
-        };
+        return Done::refused(1);
     }
     let removal = find_removal(pool, n, key);
     remove(pool, map, removal)
-}
-
-// Every byte of a map becomes 0.
-pub fn clear(map: &mut [u8])
-    ensures { λ _. ⌜ now (map .exit) ≡ replicate (length (now (map .entry))) 0 ⌝ }
-{
-    let mut i: usize = 0;
-    while i < map.len() {
-        map[i] = 0;
-        i += 1;
-    }
 }
 
 // Makes an empty pool of n leaves: word 1, then word 0, then the map.
@@ -73,6 +49,6 @@ pub fn format(pool: &mut [u64], map: &mut [u8], n: u64) -> u64
     }
     pool[1] = 0;
     pool[0] = n;
-    clear(map);
+    plan::clear(map);
     0
 }

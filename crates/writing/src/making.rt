@@ -11,7 +11,7 @@ ghost use Rattle.plan.specs.Plans.{made};
 ghost use Rattle.planning.specs.Puts.{splitChild, targetHeader, Splits, growOf, splitOf};
 ghost use Rattle.planning.specs.Leads.{planAt, Able};
 ghost use Rattle.planning.specs.Removals.{decidedBy};
-ghost use Rattle.writing.specs.Calls.{left, wholeOf};
+ghost use Rattle.writing.specs.Calls.{done, left, wholeOf};
 use digits::Header;
 use plan::Effect;
 use planning::Cleft;
@@ -27,6 +27,15 @@ use planning::split_child;
 pub struct Done {
     pub number: u64,
     pub stores: usize,
+}
+
+impl Done {
+    // A refusal: nothing was stored.
+    pub fn refused(number: u64) -> Done
+        ensures { λ r. ⌜ r ≡ done number 0 ⌝ }
+    {
+        Done { number, stores: 0 }
+    }
 }
 
 // The two words of a new leaf.
@@ -46,10 +55,7 @@ fn make_grow(pool: &mut [u64], map: &mut [u8], n: usize, key: u64, value: u64, a
 {
     let leaf = lowest_free(map, 0, n);
     if n <= leaf {
-        return Done {
-            number: 4,
-            stores: 0,
-        };
+        return Done::refused(4);
     }
     make_leaf(pool, leaf, key, value); // the leaf, whole
     plan::store(pool, at, pool::leaf_ref(leaf)); // and then the reference to it
@@ -100,10 +106,7 @@ fn make_split(
     ensures { λ r. ⌜ left r (now (pool .exit)) (now (map .exit)) ≡ wholeOf (splitOf (now (map .entry)) n s key value target) (now (pool .entry)) (now (map .entry)) ⌝ }
 {
     let Room::Slots(leaf, byte) = find_room(map, n) else {
-        return Done {
-            number: 4,
-            stores: 0,
-        };
+        return Done::refused(4);
     };
     let node = byte - n;
     make_leaf(pool, leaf, key, value);
@@ -139,7 +142,7 @@ pub fn put_at(
         }
         Place::Gap(at) => make_grow(pool, map, n, key, value, at),
         Place::Apart(s, target) => make_split(pool, map, n, s, key, value, target),
-        Place::Refused(number) => Done { number, stores: 0 },
+        Place::Refused(number) => Done::refused(number),
     }
 }
 
@@ -148,7 +151,7 @@ pub fn remove(pool: &mut [u64], map: &mut [u8], removal: Removal) -> Done
     ensures { λ r. ⌜ left r (now (pool .exit)) (now (map .exit)) ≡ wholeOf (decidedBy removal) (now (pool .entry)) (now (map .entry)) ⌝ }
 {
     match removal {
-        Removal::Refused(number) => Done { number, stores: 0 },
+        Removal::Refused(number) => Done::refused(number),
         Removal::Emptied(at, leaf) => {
             plan::store(pool, at, 0);
             plan::take_effect(map, Effect::FreesLeaf(leaf));

@@ -15,11 +15,14 @@ enum-known-n c = search needs
 enum-told : tie.Need-enum-told
 enum-told c = search needs
 
+refused-requires : tie.Need-refused-requires
+refused-requires c κs = search needs
+
 same-length : tie.Need-same-length
 same-length c = search needs
 
 returns : tie.Need-returns
-returns c = delete-unsized-whole _ _ _ (c .before .before .capacity .ensures .0) (c .enum-told .given .1)
+returns c = rw (c .refused .ensures) (delete-unsized-whole _ _ _ (c .before .before .before .capacity .ensures .0) (c .before .enum-told .given .1))
 
 mul-if1 : tie.Need-mul-if1
 mul-if1 c = let z = rw (c .before .n .given .1) at (c .before .before .before .capacity .ensures .1) in omega arith
@@ -27,11 +30,16 @@ mul-if1 c = let z = rw (c .before .n .given .1) at (c .before .before .before .c
 sub-if1 : tie.Need-sub-if1
 sub-if1 c = let z = rw (c .before .n .given .1) at (c .before .before .before .capacity .ensures .1) in omega arith
 
+refused-requires-2 : tie.Need-refused-requires-2
+refused-requires-2 c κs = search needs
+
 same-length-2 : tie.Need-same-length-2
 same-length-2 c = search needs
 
 returns-2 : tie.Need-returns-2
-returns-2 c = delete-unmapped _ _ _ (c .before .before .before .before .capacity .ensures .0) (c .before .before .n .given .1) (c .if1 .taken)
+returns-2 c =
+    rw (c .refused2 .ensures)
+    (delete-unmapped _ _ _ (c .before .before .before .before .before .capacity .ensures .0) (c .before .before .before .n .given .1) (c .before .if1 .taken))
 
 find-removal-requires : tie.Need-find-removal-requires
 find-removal-requires c κs = (rw (c .before .before .before .n .given .1) at (c .before .before .before .before .before .capacity .ensures .1), sym (c .before .before .before .before .before .capacity .ensures .0) ∙ c .before .before .before .n .given .1)
@@ -55,10 +63,12 @@ delete-spec =
     capacity-requires
     enum-known-n
     enum-told
+    refused-requires
     same-length
     returns
     mul-if1
     sub-if1
+    refused-requires-2
     same-length-2
     returns-2
     find-removal-requires

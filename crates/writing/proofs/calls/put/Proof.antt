@@ -16,11 +16,16 @@ enum-known-n c = search needs
 enum-told : tie.Need-enum-told
 enum-told c = search needs
 
+refused-requires : tie.Need-refused-requires
+refused-requires c κs = search needs
+
 same-length : tie.Need-same-length
 same-length c = search needs
 
 returns : tie.Need-returns
-returns c = put-made _ _ _ _ (put-unsized _ _ _ _ (c .before .before .capacity .ensures .0) (c .enum-told .given .1)) (whole-none _ _ 1)
+returns c =
+    put-made _ _ _ _ (put-unsized _ _ _ _ (c .before .before .before .capacity .ensures .0) (c .before .enum-told .given .1))
+    (rw (c .refused .ensures) (whole-none _ _ 1))
 
 mul-if1 : tie.Need-mul-if1
 mul-if1 c = let z = rw (c .before .n .given .1) at (c .before .before .before .capacity .ensures .1) in omega arith
@@ -28,11 +33,16 @@ mul-if1 c = let z = rw (c .before .n .given .1) at (c .before .before .before .c
 sub-if1 : tie.Need-sub-if1
 sub-if1 c = let z = rw (c .before .n .given .1) at (c .before .before .before .capacity .ensures .1) in omega arith
 
+refused-requires-2 : tie.Need-refused-requires-2
+refused-requires-2 c κs = search needs
+
 same-length-2 : tie.Need-same-length-2
 same-length-2 c = search needs
 
 returns-2 : tie.Need-returns-2
-returns-2 c = put-made _ _ _ _ (put-unmapped _ _ _ _ (c .before .before .before .before .capacity .ensures .0) (c .before .before .n .given .1) (c .if1 .taken)) (whole-none _ _ 1)
+returns-2 c =
+    put-made _ _ _ _ (put-unmapped _ _ _ _ (c .before .before .before .before .before .capacity .ensures .0) (c .before .before .before .n .given .1) (c .before .if1 .taken))
+    (rw (c .refused2 .ensures) (whole-none _ _ 1))
 
 find-place-requires : tie.Need-find-place-requires
 find-place-requires c κs = rw (c .before .before .before .n .given .1) at (c .before .before .before .before .before .capacity .ensures .1)
@@ -56,10 +66,12 @@ put-spec =
     capacity-requires
     enum-known-n
     enum-told
+    refused-requires
     same-length
     returns
     mul-if1
     sub-if1
+    refused-requires-2
     same-length-2
     returns-2
     find-place-requires

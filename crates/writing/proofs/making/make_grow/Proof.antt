@@ -7,11 +7,16 @@ use Rattle.writing.proofs.making.make_grow.Tie as tie
 lowest-free-requires : tie.Need-lowest-free-requires
 lowest-free-requires c κs = search needs
 
+refused-requires : tie.Need-refused-requires
+refused-requires c κs = search needs
+
 same-length : tie.Need-same-length
 same-length c = search needs
 
 returns : tie.Need-returns
-returns c = let a = c .before .before .before .before .before .args in grow-full (a .pool .now) (a .map .now) (a .n) (a .key) (a .value) (a .at) (c .before .lowest-free .ensures) (c .if1 .taken)
+returns c =
+    let a = c .before .before .before .before .before .before .args in
+    rw (c .refused .ensures) (grow-full (a .pool .now) (a .map .now) (a .n) (a .key) (a .value) (a .at) (c .before .before .lowest-free .ensures) (c .before .if1 .taken))
 
 make-leaf-requires : tie.Need-make-leaf-requires
 make-leaf-requires c κs = search needs
@@ -40,6 +45,7 @@ make-grow-spec =
     tie.close
     (tie.spec
     lowest-free-requires
+    refused-requires
     same-length
     returns
     make-leaf-requires

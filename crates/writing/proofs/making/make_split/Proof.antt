@@ -18,11 +18,17 @@ enum-known-leaf c = search needs
 enum-told : tie.Need-enum-told
 enum-told c = search needs
 
+refused-requires : tie.Need-refused-requires
+refused-requires c κs = search needs
+
 same-length : tie.Need-same-length
 same-length c = search needs
 
 returns : tie.Need-returns
-returns c = let a = c .before .before .before .before .before .before .args in split-full (a .pool .now) (a .map .now) (a .n) (a .s) (a .key) (a .value) (a .target) (c .before .before .find-room .ensures) (c .enum-told .given .1)
+returns c =
+    let a = c .before .before .before .before .before .before .before .args in
+    rw (c .refused .ensures)
+    (split-full (a .pool .now) (a .map .now) (a .n) (a .s) (a .key) (a .value) (a .target) (c .before .before .before .find-room .ensures) (c .before .enum-told .given .1))
 
 -- where the two slots are
 slots : (c : tie.After-known-told)
@@ -78,6 +84,7 @@ make-split-spec =
     find-room-requires
     enum-known-leaf
     enum-told
+    refused-requires
     same-length
     returns
     sub-node

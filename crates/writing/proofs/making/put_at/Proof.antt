@@ -34,6 +34,9 @@ make-split-requires c κs = let h = rw (c .before .before .before .place3 .given
 enum-known-place-4 : tie.Need-enum-known-place-4
 enum-known-place-4 c = search needs
 
+refused-requires : tie.Need-refused-requires
+refused-requires c κs = search needs
+
 same-length : tie.Need-same-length
 same-length c = search needs
 
@@ -59,7 +62,7 @@ returns-3 : tie.Need-returns-3
 returns-3 c = rw (c .before .before .before .before .before .before .before .before .place3 .given .1) (c .before .before .before .before .make-split .ensures)
 
 returns-4 : tie.Need-returns-4
-returns-4 c = rw (c .before .place4 .given .1) (whole-none _ _ _)
+returns-4 c = rw (c .before .before .place4 .given .1, c .refused .ensures) (whole-none _ _ _)
 
 pub put-at-spec : {M : Type 1} → statement M
 put-at-spec =
@@ -74,6 +77,7 @@ put-at-spec =
     enum-known-place-3
     make-split-requires
     enum-known-place-4
+    refused-requires
     same-length
     returns
     same-length-2

@@ -8,6 +8,9 @@ use Rattle.writing.proofs.making.remove.Tie as tie
 enum-known-removal : tie.Need-enum-known-removal
 enum-known-removal c = search needs
 
+refused-requires : tie.Need-refused-requires
+refused-requires c κs = search needs
+
 enum-known-removal-2 : tie.Need-enum-known-removal-2
 enum-known-removal-2 c = search needs
 
@@ -39,7 +42,7 @@ take-effect-requires-3 : tie.Need-take-effect-requires-3
 take-effect-requires-3 c κs = search needs
 
 returns : tie.Need-returns
-returns c = rw (c .before .removal .given .1) (whole-none _ _ _)
+returns c = rw (c .before .before .removal .given .1, c .refused .ensures) (whole-none _ _ _)
 
 same-length : tie.Need-same-length
 same-length c = search needs
@@ -75,6 +78,7 @@ remove-spec =
     tie.close
     (tie.spec
     enum-known-removal
+    refused-requires
     enum-known-removal-2
     store-requires
     take-effect-requires
