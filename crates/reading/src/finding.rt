@@ -57,5 +57,6 @@ pub fn lookup(pool: &[u64], key: u64) -> Found
         w = b + 1;
         nodes += 1;
     }
-    found_end(pool, n, key, nodes, pool::reference(n, x))
+    let end = pool::reference(n, x);
+    found_end(pool, n, key, nodes, end)
 }

@@ -168,7 +168,7 @@ reference-requires-2 : tie.Need-reference-requires-2 Inv-loop μ-loop
 reference-requires-2 c κs = search needs
 
 found-end-requires-2 : tie.Need-found-end-requires-2 Inv-loop μ-loop
-found-end-requires-2 c κs = (c .before .before .loop .inv .0, c .reference2 .ensures .1)
+found-end-requires-2 c κs = (c .before .before .loop .inv .0, search needs)
 
 returns-4 : tie.Need-returns-4 Inv-loop μ-loop
 returns-4 c =
