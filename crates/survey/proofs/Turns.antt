@@ -43,10 +43,6 @@ gives-over f m m′ s p q k = alike-over (survey m′ s) (f (survey m (census k 
 
 -- ---- a leaf
 module _ (m : List ℕ) (i key : ℕ) where
-  pub leaf-first : getD m i 0 ≡ 0 → Gives (leafMet i key) m (survey (set m i 1) (census key true))
-  unfolding leafMet
-  leaf-first e k = alike-same (rw (eq-eqb (getD m i 0) 0 e))
-
   pub leaf-again : (s : Census) → (getD m i 0 ≡ 0 → ⊥) → Over s → Gives (leafMet i key) m (survey m s)
   unfolding leafMet
   leaf-again s e p = gives-over (leafMet i key) m m s p (λ k. rw (ne-eqb (getD m i 0) 0 e))
