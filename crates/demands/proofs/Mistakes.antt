@@ -1,4 +1,4 @@
--- Each of the five wrong orders leads to the wrong answer named with it, and the right order at the same cut to the table's, all by one computation.
+-- Each of the five wrong lists leads to the wrong answer named with it, and the right one at the same cut to the table's, all by one computation.
 -- Assumes nothing.
 use mathlib.Core.Path.{_≡_, refl}
 use mathlib.Core.Bool.{true}

@@ -1,5 +1,6 @@
--- Five orders of stores that look right, each made on one small pool up to a cut, after which lookup answers otherwise than the table of names. These
--- are computed cases and say nothing of other pools or cuts; what the right order leaves, in every pool and at every cut, the laws of layout say.
+-- Five lists of stores that look right, four in another order and one with a store left out, each made on one small pool up to a cut, after which
+-- lookup answers otherwise than the table of names. These are computed cases and say nothing of other pools or cuts; what the right lists leave, in
+-- every sound pool and at every cut, the laws of layout say.
 -- Assumes nothing.
 use mathlib.Core.Bool.{Bool, not}
 use mathlib.Core.Option.{Option, none, some}
