@@ -2,6 +2,7 @@ pub mod States
 pub mod Operations
 pub mod Readings
 pub mod Cases
+pub mod Mistakes
 pub mod Unique
 pub mod Demand1
 pub mod Demand2

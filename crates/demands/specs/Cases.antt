@@ -42,14 +42,14 @@ sizeNumber (Holds n) = 0
 sizeNumber Wrong = 1
 
 -- a fresh pool of n leaves in so many words, and the same after puts
-abbrev fresh : ℕ → ℕ → ℕ → Left
+abbrev pub fresh : ℕ → ℕ → ℕ → Left
 fresh n words bytes = record {
   done = record { number = 0; stores = 0 };
   pool = formatOf (replicate words 0) (replicate bytes 0) n .pool;
   map = formatOf (replicate words 0) (replicate bytes 0) n .map;
 }
 
-abbrev putting : ℕ → ℕ → Left → Left
+abbrev pub putting : ℕ → ℕ → Left → Left
 putting k v l = putOf (l .pool) (l .map) k v
 
 -- the header of the only node of a pool that holds just two keys: N = 2, so word 6

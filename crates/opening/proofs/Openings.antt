@@ -9,11 +9,11 @@ use native.Mathlib.Nat.{le-of-suc-le-suc, not-suc-le-zero}
 use native.Mathlib.Numerals.{add-one}
 use native.Mathlib.Omega.{arith}
 use borrow.Author.Tests.{eq-eqb, ne-eqb, lt-ltb, le-ltb, not-true, not-false}
-use lib.Dec.{eqb, ltb}
+use lib.Dec.{eqb}
 use lib.ListN.{length, getD, set, take, drop, replicate, List·getD-map}
 use Rattle.digits.specs.Choice.{pick}
 use Rattle.digits.specs.Loops.{upto}
-use Rattle.digits.specs.Headers.{headerOf, depthOf}
+use Rattle.digits.specs.Headers.{headerOf}
 use Rattle.tree.specs.Stores.{Store}
 use Rattle.tree.proofs.Stores.{Words}
 use Rattle.pool.specs.Sizes.{capacityOf, bytesOf}
@@ -73,10 +73,6 @@ few-keys l i = tally-le (λ x. not (eqb (getD l x 0) 0)) i
 module _ (pool : List ℕ) (n : ℕ) (marks : List ℕ) (j : ℕ) where
   pub unmet-fresh : getD marks (n + j) 0 ≡ 0 → false ≡ stale pool n marks j
   unmet-fresh e = rw (eq-eqb (getD marks (n + j) 0) 0 e)
-
-  pub met-judged : (getD marks (n + j) 0 ≡ 0 → ⊥) → {word depth : ℕ} → word ≡ headerAt pool n j → depth ≡ depthOf word
-      → ltb (getD marks (n + j) 0 - 1) depth ≡ stale pool n marks j
-  met-judged h e q = rw (q, e, ne-eqb (getD marks (n + j) 0) 0 h)
 
 -- ---- the header that mends a node, by what `header` and `accept` told
 module _ (pool : List ℕ) (n w j : ℕ) {word : ℕ} {h : Head} (there : word ≡ headerAt pool n j) (is : h ≡ headOf w word) where

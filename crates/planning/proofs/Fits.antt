@@ -254,7 +254,7 @@ module _ {pool : List ℕ} {n : ℕ} (z : Sized pool n) where
 
   emptied-fits : (at i : ℕ) → at < length pool → i < n → DeleteFits pool (bytesOf n) (emptied at i)
   unfolding Words
-  emptied-fits at i h l = record { inside = (h, tt); few = omega arith; named = (tt, (omega arith, tt)); answers = plans refl (hit deleteCounts 1 tt) }
+  emptied-fits at i h l = record { inside = (h, tt); few = omega arith; named = search arith; answers = plans refl (hit deleteCounts 1 tt) }
 
   module _ {s : Spot} (p : Passed pool n s) (i : ℕ) (l : i < n) where
     lift-fits : (r j b : ℕ) (k : Lowest) → j + 1 < n → DeleteFits pool (bytesOf n) (liftOf n s i r j b k)
@@ -289,7 +289,7 @@ module _ {pool : List ℕ} {n : ℕ} (z : Sized pool n) where
     unlink-fits h =
         either (ltb (childrenOf pool n (s .node)) 2) (λ e. unmet)
         (λ e.
-        either (ltb 2 (childrenOf pool n (s .node))) (λ e. emptied-fits (s .at) i h l)
+        either (ltb _ (childrenOf pool n (s .node))) (λ e. emptied-fits (s .at) i h l)
         (λ e.
         either (ltb (otherChild pool n (s .node) (s .at)) 16)
         (λ e.

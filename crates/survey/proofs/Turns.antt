@@ -43,10 +43,6 @@ gives-over f m m′ s p q k = alike-over (survey m′ s) (f (survey m (census k 
 
 -- ---- a leaf
 module _ (m : List ℕ) (i key : ℕ) where
-  pub leaf-first : getD m i 0 ≡ 0 → Gives (leafMet i key) m (survey (set m i 1) (census key true))
-  unfolding leafMet
-  leaf-first e k = alike-same (rw (eq-eqb (getD m i 0) 0 e))
-
   pub leaf-again : (s : Census) → (getD m i 0 ≡ 0 → ⊥) → Over s → Gives (leafMet i key) m (survey m s)
   unfolding leafMet
   leaf-again s e p = gives-over (leafMet i key) m m s p (λ k. rw (ne-eqb (getD m i 0) 0 e))
@@ -69,7 +65,7 @@ module _ (b c : ℕ) (g : Gather) (s : Census) where
   join-some =
       let P : Gather → Type 0 = λ x. x .some ≡ true in
       pick-both P (s .sound)
-      (pick-both P (eqb (digitOf (s .last) b) c) (pick-both P (g .some) (pick-both P (leb b (firstDiff (g .first) (s .last))) refl refl) refl) refl) refl
+      (pick-both P (eqb (digitOf (s .last) b) c) (pick-both P (g .some) (pick-both P (leb _ (firstDiff (g .first) (s .last))) refl refl) refl) refl) refl
 
   -- the code's cases, in their order
   pub join-damaged : not (s .sound) ≡ true → gather (census (s .last) false) (g .first) true ≡ joinOf b c g s
@@ -85,13 +81,11 @@ module _ (b c : ℕ) (g : Gather) (s : Census) where
     unfolding joinOf
     join-first h e = rw (not-false (s .sound) sound, ← digit, eq-eqb d c h, not-true (g .some) e)
 
-    pub join-more : d ≡ c → not (g .some) ≡ false → {f : ℕ} → f ≡ firstDiff (g .first) (s .last) → gather (census (s .last) (leb b f)) (g .first) true ≡ joinOf b c g s
-    unfolding joinOf
-    join-more h e {f} q = rw (not-false (s .sound) sound, ← digit, eq-eqb d c h, not-false (g .some) e, ← q) (go (leb b f))
-      where
-        go : (t : Bool) → gather (census (s .last) t) (g .first) true ≡ pick t (gather (census (s .last) true) (g .first) true) (gather (census (s .last) false) (g .first) true)
-        go true = refl
-        go false = refl
+-- what is joined under a test is sound as the test says
+pub join-tested : (last first : ℕ) (t : Bool)
+    → gather (census last t) first true ≡ pick t (gather (census last true) first true) (gather (census last false) first true)
+join-tested last first true = refl
+join-tested last first false = refl
 
 -- what the definition has gathered where the code has gathered g, and k was the last key met before
 abbrev pub seen : ℕ → Gather → Gather

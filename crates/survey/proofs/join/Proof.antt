@@ -1,7 +1,9 @@
 -- `join` goes by the definition's tests, in their order. Assumes nothing.
 use mathlib.Core.Path.{_∙_}
 use borrow.Author.Needs.{needs}
-use Rattle.survey.proofs.Turns.{join-damaged, join-turned, join-first, join-more}
+use borrow.Author.Tests.{eq-eqb, not-false}
+use Rattle.survey.specs.Surveys.{joinOf}
+use Rattle.survey.proofs.Turns.{join-damaged, join-turned, join-first, join-tested}
 use Rattle.survey.proofs.join.Statement.{statement}
 use Rattle.survey.proofs.join.Tie as tie
 
@@ -33,9 +35,21 @@ first-diff-requires c κs = search needs
 gathered-requires-4 : tie.Need-gathered-requires-4
 gathered-requires-4 c κs = search needs
 
+-- the code's last test is the definition's, whatever it tests
 returns-4 : tie.Need-returns-4
-returns-4 c = c .gathered4 .ensures ∙ join-more _ _ _ _ (c .before .before .before .before .before .if1 .left) (c .before .before .before .before .digit .ensures)
-    (c .before .before .before .if2 .left) (c .before .before .if3 .left) (c .before .first-diff .ensures)
+unfolding joinOf
+returns-4 c =
+    let x = c .before .before .before .before in
+    let a = x .before .before .args in
+    c .gathered4 .ensures
+    ∙ rw (
+      not-false (a .s .sound) (x .before .if1 .left),
+      ← x .digit .ensures,
+      eq-eqb (x .digit .result) (a .c) (c .before .before .before .if2 .left),
+      not-false (a .g .some) (c .before .before .if3 .left),
+      ← c .before .first-diff .ensures,
+    )
+    (join-tested (a .s .last) (a .g .first) _)
 
 pub join-spec : {M : Type 1} → statement M
 join-spec =

@@ -1,7 +1,9 @@
 -- `meet_leaf` marks a leaf that was not met before. Assumes nothing.
 use mathlib.Core.Path.{refl}
 use borrow.Author.Needs.{needs}
-use Rattle.survey.proofs.Turns.{leaf-first, leaf-again}
+use borrow.Author.Tests.{eq-eqb}
+use Rattle.survey.specs.Surveys.{leafMet}
+use Rattle.survey.proofs.Turns.{alike-same, leaf-again}
 use Rattle.survey.proofs.meet_leaf.Statement.{statement}
 use Rattle.survey.proofs.meet_leaf.Tie as tie
 
@@ -20,8 +22,10 @@ slice-write-map c = search needs
 same-length : tie.Need-same-length
 same-length c = search needs
 
+-- the code's mark is the definition's, whatever it is
 returns-2 : tie.Need-returns-2
-returns-2 c = leaf-first _ _ _ (c .if1 .left)
+unfolding leafMet
+returns-2 c k = alike-same (rw (eq-eqb _ 0 (c .if1 .left)))
 
 pub meet-leaf-spec : {M : Type 1} → statement M
 meet-leaf-spec =

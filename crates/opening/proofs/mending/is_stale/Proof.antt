@@ -2,7 +2,8 @@
 use Prim.Native.Nat.{_+_}
 use native.Mathlib.Omega.{arith}
 use borrow.Author.Needs.{needs}
-use Rattle.opening.proofs.Openings.{unmet-fresh, met-judged}
+use borrow.Author.Tests.{ne-eqb}
+use Rattle.opening.proofs.Openings.{unmet-fresh}
 use Rattle.opening.proofs.mending.is_stale.Statement.{statement}
 use Rattle.opening.proofs.mending.is_stale.Tie as tie
 
@@ -29,11 +30,9 @@ header-requires c κs = search needs
 unpack-requires : tie.Need-unpack-requires
 unpack-requires c κs = search needs
 
+-- the code's comparison is the definition's, whatever it compares
 returns-2 : tie.Need-returns-2
-returns-2 c =
-    let x = c .before .before .before .before .before .before .before in
-    let a = x .args in
-    met-judged (a .pool .now) (a .n) (a .map .now) (a .j) (c .before .before .before .if1 .left) (c .before .before .header .ensures) (c .before .unpack .ensures .0)
+returns-2 c = rw (c .before .unpack .ensures .0, c .before .before .header .ensures, ne-eqb _ 0 (c .before .before .before .if1 .left))
 
 pub is-stale-spec : {M : Type 1} → statement M
 is-stale-spec =
