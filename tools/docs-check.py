@@ -19,6 +19,7 @@ is the sum of the rows above it), or a text "`path`: N lines", "N files" or "N e
 
 In docs/AUDIT.md, the table of files below "What a reader must believe" has to list just the files that the statements of
 crates/demands and crates/wort reach through their `use` lines, and the table below "What a reader need not believe" the others.
+Mistakes.antt in crates/demands promises nothing and is no statement.
 
 The counting rule. A line counts unless it is blank, only a comment (-- or // or #), or a `use`, `ghost use` or `mod` line; files are
 .antt, .rt, .rs, .c, .h, .py and .sh below the path, Lib.antt left out; edits are the .edit files below the path.
@@ -87,7 +88,7 @@ def definitions():
     """The files of definitions that the statements reach, and the others."""
     crates = ROOT / "crates"
     everything = {f for f in crates.glob("*/specs/*.antt") if f.name != "Lib.antt"}
-    reached, ahead = set(), [f for f in everything if f.parent.parent.name in ("demands", "wort")]
+    reached, ahead = set(), [f for f in everything if f.parent.parent.name in ("demands", "wort") and f.name != "Mistakes.antt"]
     while ahead:
         file = ahead.pop()
         if file not in reached:
