@@ -1,4 +1,4 @@
-// A pool's sizes, references and places. All later code reads a pool through these functions.
+// A pool's sizes, references and places. All later code takes them from these functions.
 ghost use mathlib.Core.Path.{_≡_};
 ghost use Prim.Native.Nat.{ℕ, _+_, _-_, _*_, _<_, _≤_};
 ghost use lib.ListN.{length};

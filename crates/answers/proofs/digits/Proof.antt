@@ -40,10 +40,15 @@ loop-less : tie.Need-loop-less Inv-loop μ-loop
 loop-less c = omega arith
 
 loop-again : tie.Need-loop-again Inv-loop μ-loop
-loop-again c = let l = c .before .before .before .before .before .before .loop in
-    let p = c .before .before .prepend in
-    let h = c .before .before .before .before .before .loop-test .taken in
-    (omega arith, omega arith, search needs, digit-before _ _ (l .i) (l .rest) _ _ (l .inv .3) (p .result) _ _ h (p .ensures .0) (c .before .before .before .glyph .ensures) (p .ensures .1))
+loop-again c =
+    let at-prepend = c .before .before in
+    let at-glyph = at-prepend .before in
+    let at-loop-test = at-glyph .before .before in
+    let at-loop = at-loop-test .before in
+    let l = at-loop .loop in
+    let p = at-prepend .prepend in
+    let h = at-loop-test .loop-test .taken in
+    (omega arith, omega arith, search needs, digit-before _ _ (l .i) (l .rest) _ _ (l .inv .3) (p .result) _ _ h (p .ensures .0) (at-glyph .glyph .ensures) (p .ensures .1))
 
 same-length : tie.Need-same-length Inv-loop μ-loop
 same-length c = c .before .loop .inv .2

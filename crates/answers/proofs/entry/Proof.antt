@@ -22,7 +22,12 @@ same-length c = search needs
 
 returns : tie.Need-returns
 unfolding textOf
-returns c = let p = c .before .before .prepend .ensures in let f = c .before .before .before .before .before .before .field .ensures in let t = c .before .before .before .before .before .before .before .before .before .before .tail .ensures in (omega arith, rw (f .1, t .2) at (p .1))
+returns c =
+    let at-prepend = c .before .before in
+    let at-field = at-prepend .before .before .before .before in
+    let at-tail = at-field .before .before .before .before in
+    let p = at-prepend .prepend .ensures in
+    let f = at-field .field .ensures in let t = at-tail .tail .ensures in (omega arith, rw (f .1, t .2) at (p .1))
 
 pub entry-spec : {M : Type 1} → statement M
 entry-spec =

@@ -14,7 +14,11 @@ same-length : tie.Need-same-length
 same-length c = search needs
 
 returns : tie.Need-returns
-returns c = let p = c .before .before .prepend .ensures in let d = c .before .before .before .before .before .before .digits .ensures in (omega arith, rw (d .1) at (p .1))
+returns c =
+    let at-prepend = c .before .before in
+    let at-digits = at-prepend .before .before .before .before in
+    let p = at-prepend .prepend .ensures in
+    let d = at-digits .digits .ensures in (omega arith, rw (d .1) at (p .1))
 
 pub field-spec : {M : Type 1} → statement M
 field-spec = tie.close (tie.spec digits-requires prepend-requires same-length returns)

@@ -14,7 +14,11 @@ same-length : tie.Need-same-length
 same-length c = search needs
 
 returns : tie.Need-returns
-returns c = let p = c .before .before .prepend .ensures in let t = c .before .before .before .before .before .before .tail .ensures in (omega arith, rw (t .2) at (p .1))
+returns c =
+    let at-prepend = c .before .before in
+    let at-tail = at-prepend .before .before .before .before in
+    let p = at-prepend .prepend .ensures in
+    let t = at-tail .tail .ensures in (omega arith, rw (t .2) at (p .1))
 
 pub line-spec : {M : Type 1} → statement M
 line-spec = tie.close (tie.spec tail-requires prepend-requires same-length returns)

@@ -15,7 +15,11 @@ same-length : tie.Need-same-length
 same-length c = search needs
 
 returns : tie.Need-returns
-returns c = let f = c .before .before .fields .ensures in let p = c .before .before .before .before .before .before .prepend .ensures in (omega arith, omega arith, rw (p .1, drop-length) at (f .2))
+returns c =
+    let at-fields = c .before .before in
+    let at-prepend = at-fields .before .before .before .before in
+    let f = at-fields .fields .ensures in
+    let p = at-prepend .prepend .ensures in (omega arith, omega arith, rw (p .1, drop-length) at (f .2))
 
 pub tail-spec : {M : Type 1} → statement M
 tail-spec = tie.close (tie.spec prepend-requires fields-requires same-length returns)

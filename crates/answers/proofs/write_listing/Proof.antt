@@ -48,9 +48,13 @@ loop-less : tie.Need-loop-less Inv-loop μ-loop
 loop-less c = search needs
 
 loop-again : tie.Need-loop-again Inv-loop μ-loop
-loop-again c = let a = c .before .before .before .before .before .before .before .before .before .before .before .before .before .args in
-    let l = c .before .before .before .before .before .before .before .loop in
-    (omega arith, l .inv .1, l .inv .2, omega arith, entry-more (a .keys .now) (a .values .now) (l .i) (page (a .out .now) (a .at)) _ _ (l .inv .4) (c .before .before .write-answer .ensures))
+loop-again c =
+    let at-write-answer = c .before .before in
+    let at-loop = at-write-answer .before .before .before .before .before in
+    let start = at-loop .before .before .before .before .before .before in
+    let a = start .args in
+    let l = at-loop .loop in
+    (omega arith, l .inv .1, l .inv .2, omega arith, entry-more (a .keys .now) (a .values .now) (l .i) (page (a .out .now) (a .at)) _ _ (l .inv .4) (at-write-answer .write-answer .ensures))
 
 write-answer-requires-2 : tie.Need-write-answer-requires-2 Inv-loop μ-loop
 write-answer-requires-2 c κs = search needs
@@ -59,10 +63,16 @@ same-length : tie.Need-same-length Inv-loop μ-loop
 same-length c = omega arith
 
 returns : tie.Need-returns Inv-loop μ-loop
-returns c = let a = c .before .before .before .before .before .before .before .before .before .before .before .args in
-    let l = c .before .before .before .before .before .loop in
-    let n = c .before .before .before .before .before .before .least2 in
-    listed (a .keys .now) (a .values .now) (a .count) (n .result) (l .i) (page (a .out .now) (a .at)) _ _ (omega arith) (c .before .before .before .before .loop-test .left) (l .inv .0) (l .inv .4) (c .before .before .write-answer2 .ensures)
+returns c =
+    let at-write-answer2 = c .before .before in
+    let at-loop-test = at-write-answer2 .before .before in
+    let at-loop = at-loop-test .before in
+    let at-least2 = at-loop .before in
+    let start = at-least2 .before .before .before .before .before in
+    let a = start .args in
+    let l = at-loop .loop in
+    let n = at-least2 .least2 in
+    listed (a .keys .now) (a .values .now) (a .count) (n .result) (l .i) (page (a .out .now) (a .at)) _ _ (omega arith) (at-loop-test .loop-test .left) (l .inv .0) (l .inv .4) (at-write-answer2 .write-answer2 .ensures)
 
 pub write-listing-spec : {M : Type 1} → statement M
 write-listing-spec =

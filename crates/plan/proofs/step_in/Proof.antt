@@ -34,7 +34,11 @@ same-length c = search needs
 
 returns-3 : tie.Need-returns-3
 unfolding stepOf
-returns-3 c = c .before .before .store .ensures ∙ simp (le-ltb _ _ (c .before .before .before .before .before .before .before .if1 .left), lt-leb _ _ (c .before .before .before .before .before .before .if2 .left))
+returns-3 c =
+    let at-store = c .before .before in
+    let at-if2 = at-store .before .before .before .before in
+    let at-if1 = at-if2 .before in
+    at-store .store .ensures ∙ simp (le-ltb _ _ (at-if1 .if1 .left), lt-leb _ _ (at-if2 .if2 .left))
 
 pub step-in-spec : {M : Type 1} → statement M
 step-in-spec =

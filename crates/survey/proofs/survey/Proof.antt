@@ -38,8 +38,10 @@ enum-known-j c = search needs
 
 survey-node-requires : tie.Need-survey-node-requires
 survey-node-requires c κs =
+    let at-j = c .before .before in
+    let at-reference = at-j .before .before in
     let x = c .before .before .before .before .before .before .before .before in
-    (x .pre .0, simp length-replicate at (ap length (x .pre .1)), omega arith, rw (c .before .before .j .given .1) at (c .before .before .before .before .reference .ensures .1))
+    (x .pre .0, simp length-replicate at (ap length (x .pre .1)), omega arith, rw (at-j .j .given .1) at (at-reference .reference .ensures .1))
 
 enum-told-2 : tie.Need-enum-told-2
 enum-told-2 c = search needs
@@ -71,9 +73,11 @@ returns-3 c =
 
 returns-4 : tie.Need-returns-4
 returns-4 c =
-    let a = c .before .before .before .before .before .before .args in
-    found _ _ (c .before .before .before .before .before .before .pre .1)
-    (ref-bad (a .pool .now) (a .n) 0 (wordAt (a .pool .now) 1) (a .map .now) (c .before .before .reference .ensures .0) (census 0 false) (c .enum-told2 .given .1) refl)
+    let at-reference = c .before .before in
+    let start = at-reference .before .before .before .before in
+    let a = start .args in
+    found _ _ (start .pre .1)
+    (ref-bad (a .pool .now) (a .n) 0 (wordAt (a .pool .now) 1) (a .map .now) (at-reference .reference .ensures .0) (census 0 false) (c .enum-told2 .given .1) refl)
 
 pub survey-spec : {M : Type 1} → statement M
 survey-spec =

@@ -37,8 +37,10 @@ loop-less c = search needs
 
 loop-again : tie.Need-loop-again Inv-loop μ-loop
 loop-again c =
-    let a = c .before .before .before .before .before .args in
-    let i = c .before .before .before .loop .c in
+    let at-loop = c .before .before .before in
+    let start = at-loop .before .before in
+    let a = start .args in
+    let i = at-loop .loop .c in
     let e = c .before .child .ensures in (
       search needs,
       ⊎-elim (λ w. omega (arith, counted (a .pool .now) (a .n) (a .j) i e (w .0 .taken))) (λ w. omega (arith, uncounted (a .pool .now) (a .n) (a .j) i e (w .0 .left))) (c .if1 .came),

@@ -35,8 +35,10 @@ loop-less c = search needs
 
 loop-again : tie.Need-loop-again Inv-loop μ-loop
 loop-again c =
-    let a = c .before .before .before .before .before .args in
-    (search needs, lowest-later (a .pool .now) (a .n) (a .j) _ (c .before .child .ensures) (search needs) (c .if1 .left) ∙ c .before .before .before .loop .inv .1)
+    let at-loop = c .before .before .before in
+    let start = at-loop .before .before in
+    let a = start .args in
+    (search needs, lowest-later (a .pool .now) (a .n) (a .j) _ (c .before .child .ensures) (search needs) (c .if1 .left) ∙ at-loop .loop .inv .1)
 
 returns-2 : tie.Need-returns-2 Inv-loop μ-loop
 returns-2 c = scan-none _ _ _ (omega arith) ∙ c .before .loop .inv .1

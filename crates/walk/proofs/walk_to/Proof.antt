@@ -65,11 +65,16 @@ ended-requires c κs = search needs
 
 returns : tie.Need-returns Inv-loop μ-loop
 returns c =
-    let r = c .before .before .reference in
-    c .ended .ensures ∙ sym (walk-ends _ _ _ _ 16 _ (r .result) (sym (r .ensures .0)) (unmatched (r .result) (c .before .match .keys2))) ∙ c .before .before .before .before .loop .inv .1
+    let at-reference = c .before .before in
+    let at-loop = at-reference .before .before in
+    let r = at-reference .reference in
+    c .ended .ensures ∙ sym (walk-ends _ _ _ _ 16 _ (r .result) (sym (r .ensures .0)) (unmatched (r .result) (c .before .match .keys2))) ∙ at-loop .loop .inv .1
 
 header-requires : tie.Need-header-requires Inv-loop μ-loop
-header-requires c κs = (c .before .before .before .before .before .before .before .before .pre, rw (c .before .r .given .1) at (c .before .before .before .reference .ensures .1))
+header-requires c κs =
+    let at-reference = c .before .before .before in
+    let start = at-reference .before .before .before .before .before in
+    (start .pre, rw (c .before .r .given .1) at (at-reference .reference .ensures .1))
 
 accept-requires : tie.Need-accept-requires Inv-loop μ-loop
 accept-requires c κs = search needs

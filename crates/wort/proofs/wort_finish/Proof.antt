@@ -20,7 +20,11 @@ same-length : tie.Need-same-length
 same-length c = search needs
 
 returns-2 : tie.Need-returns-2
-returns-2 c = simp (le-ltb _ _ (c .before .before .before .before .before .before .if1 .left)) (rw (c .before .before .before .taken-in .ensures) at (c .before .before .finish .ensures))
+returns-2 c =
+    let at-finish = c .before .before in
+    let at-taken-in = at-finish .before in
+    let at-if1 = at-taken-in .before .before .before in
+    simp (le-ltb _ _ (at-if1 .if1 .left)) (rw (at-taken-in .taken-in .ensures) at (at-finish .finish .ensures))
 
 pub wort-finish-spec : {M : Type 1} → statement M
 wort-finish-spec =

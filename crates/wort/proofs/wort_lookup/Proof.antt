@@ -38,7 +38,10 @@ returns-2 : tie.Need-returns-2
 returns-2 c = c .found2 .ensures ∙ (rw (c .before .before .before .before .m .given .1) at (c .before .before .before .before .before .before .lookup .ensures))
 
 returns-3 : tie.Need-returns-3
-returns-3 c = c .found3 .ensures ∙ (rw (c .before .before .before .before .m2 .given .1) at (c .before .before .before .before .before .before .lookup .ensures))
+returns-3 c =
+    let at-m2 = c .before .before .before .before in
+    let at-lookup = at-m2 .before .before in
+    c .found3 .ensures ∙ (rw (at-m2 .m2 .given .1) at (at-lookup .lookup .ensures))
 
 returns-4 : tie.Need-returns-4
 returns-4 c = c .found4 .ensures ∙ (rw (c .before .before .before .enum-told .given .1) at (c .before .before .before .before .before .lookup .ensures))

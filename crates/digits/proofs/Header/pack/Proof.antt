@@ -39,9 +39,11 @@ loop-less c = search needs
 
 loop-again : tie.Need-loop-again Inv-loop μ-loop
 loop-again c =
+    let at-cells = c .before .before in
+    let start = at-cells .before in
     let l = c .before .loop in
-    let a = c .before .before .before .args in
-    (search needs, stored-push 16 (l .i) (a .depth) (a .length) (a .key) (l .low) _ (omega arith) (l .inv .1) (c .before .before .cells .ensures (l .i) (omega arith)))
+    let a = start .args in
+    (search needs, stored-push 16 (l .i) (a .depth) (a .length) (a .key) (l .low) _ (omega arith) (l .inv .1) (at-cells .cells .ensures (l .i) (omega arith)))
 
 returns : tie.Need-returns Inv-loop μ-loop
 returns c =

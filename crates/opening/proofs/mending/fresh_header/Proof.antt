@@ -57,11 +57,13 @@ pack-requires c κs =
 
 returns-3 : tie.Need-returns-3
 returns-3 c =
+    let at-near = c .before .before in
+    let at-lowest-leaf = at-near .before .before in
     let x = c .before .before .before .before .before in
     let y = x .before .before .before .before .before in
     let a = y .before .before .args in
     mend-header (a .pool .now) (a .n) (a .w) (a .j) (y .header .ensures) (x .before .before .before .before .accept .ensures .0) (x .before .before .b .given .1)
-    (x .node-ref .ensures) (c .before .before .before .before .lowest-leaf .ensures) (c .before .before .near .given .1) (c .pack .ensures)
+    (x .node-ref .ensures) (at-lowest-leaf .lowest-leaf .ensures) (at-near .near .given .1) (c .pack .ensures)
 
 pub fresh-header-spec : {M : Type 1} → statement M
 fresh-header-spec =

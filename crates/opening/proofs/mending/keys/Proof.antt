@@ -26,7 +26,10 @@ cast-count : tie.Need-cast-count Inv-loop μ-loop
 cast-count c = omega (arith, c .before .before .before .pre .1 (c .before .before .loop .i))
 
 add-count : tie.Need-add-count Inv-loop μ-loop
-add-count c = omega (arith, c .before .before .before .pre .1 (c .before .before .loop .i), few-keys (c .before .before .before .args .map .now) (c .before .before .loop .i))
+add-count c =
+    let at-loop = c .before .before in
+    let start = at-loop .before in
+    omega (arith, start .pre .1 (at-loop .loop .i), few-keys (start .args .map .now) (at-loop .loop .i))
 
 add-i : tie.Need-add-i Inv-loop μ-loop
 add-i c = search needs

@@ -16,7 +16,9 @@ abbrev μ-loop : tie.MeasureT-loop
 μ-loop pool₀ n map headers₀ j₀ pool headers j = n - j
 
 loop-holds : tie.Need-loop-holds Inv-loop μ-loop
-loop-holds c = (omega arith, refl, omega arith, mended-none (c .before .before .args .n) (c .before .before .args .map .now) (c .before .before .args .pool .now))
+loop-holds c =
+    let start = c .before .before in
+    (omega arith, refl, omega arith, mended-none (start .args .n) (start .args .map .now) (start .args .pool .now))
 
 add-loop : tie.Need-add-loop Inv-loop μ-loop
 add-loop c = search needs
@@ -44,9 +46,12 @@ loop-less c = search needs
 
 loop-again : tie.Need-loop-again Inv-loop μ-loop
 loop-again c =
-    let a = c .before .before .before .before .before .before .before .before .args in
-    let l = c .before .before .before .before .before .loop in
-    (omega arith, omega arith, omega (arith, turn c), mended-next (a .n) (a .map .now) (a .pool .now) (l .j) (l .inv .3) (c .before .before .mend-node .ensures))
+    let at-mend-node = c .before .before in
+    let at-loop = at-mend-node .before .before .before in
+    let start = at-loop .before .before .before in
+    let a = start .args in
+    let l = at-loop .loop in
+    (omega arith, omega arith, omega (arith, turn c), mended-next (a .n) (a .map .now) (a .pool .now) (l .j) (l .inv .3) (at-mend-node .mend-node .ensures))
 
 same-length : tie.Need-same-length Inv-loop μ-loop
 same-length c = search needs

@@ -38,13 +38,16 @@ mend-plan-requires c κs = search needs
 
 returns : tie.Need-returns Inv-loop μ-loop
 returns c =
+    let at-if1 = c .before .before in
+    let at-is-stale = at-if1 .before in
+    let at-loop-test = at-is-stale .before in
     let x = c .before .before .before .before .before in
     let a = x .before .before .before .args in
     let l = x .loop in
     let h : l .j ≡ firstStale (a .pool .now) (a .n) (a .map .now) = scan-here _ _ _
-    (sym (c .before .before .before .is-stale .ensures) ∙ c .before .before .if1 .taken) ∙ l .inv .1 in
+    (sym (at-is-stale .is-stale .ensures) ∙ at-if1 .if1 .taken) ∙ l .inv .1 in
     c .mend-plan .ensures ∙ rw (c .before .marked-depth .ensures)
-    (ap (λ (σ : List Store). planOf σ Nothing) (sym (first-at (a .pool .now) (a .n) (a .map .now) (l .j) h (c .before .before .before .before .loop-test .taken))))
+    (ap (λ (σ : List Store). planOf σ Nothing) (sym (first-at (a .pool .now) (a .n) (a .map .now) (l .j) h (at-loop-test .loop-test .taken))))
 
 add-j : tie.Need-add-j Inv-loop μ-loop
 add-j c = search needs
@@ -54,8 +57,10 @@ loop-less c = search needs
 
 loop-again : tie.Need-loop-again Inv-loop μ-loop
 loop-again c =
-    let a = c .before .before .before .before .before .before .args in
-    let l = c .before .before .before .loop in
+    let at-loop = c .before .before .before in
+    let start = at-loop .before .before .before in
+    let a = start .args in
+    let l = at-loop .loop in
     (omega arith, sym (scan-next (stale (a .pool .now) (a .n) (a .map .now)) (a .n - 1) (l .j) (omega arith) (sym (c .before .is-stale .ensures) ∙ c .if1 .left)) ∙ l .inv .1)
 
 none-requires : tie.Need-none-requires Inv-loop μ-loop

@@ -30,8 +30,11 @@ plan-of-one-requires : tie.Need-plan-of-one-requires
 plan-of-one-requires c κs = search needs
 
 returns-2 : tie.Need-returns-2
-returns-2 c = c .plan-of-one .ensures ∙ rw (c .before .node-word .ensures)
-    (ap (λ (σ : List Store). planOf σ Nothing) (rw (c .before .before .before .word .given .1) at (c .before .before .before .before .before .fresh-header .ensures)))
+returns-2 c =
+    let at-word = c .before .before .before in
+    let at-fresh-header = at-word .before .before in
+    c .plan-of-one .ensures ∙ rw (c .before .node-word .ensures)
+    (ap (λ (σ : List Store). planOf σ Nothing) (rw (at-word .word .given .1) at (at-fresh-header .fresh-header .ensures)))
 
 pub mend-plan-spec : {M : Type 1} → statement M
 mend-plan-spec =

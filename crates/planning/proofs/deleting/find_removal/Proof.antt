@@ -44,7 +44,11 @@ empty-requires : tie.Need-empty-requires
 empty-requires c κs = search needs
 
 returns-3 : tie.Need-returns-3
-returns-3 c = c .empty .ensures ∙ delete-root (walked (c .before .before .before .before .before .before .before .before)) (c .before .before .before .before .before .before .end .given .1) (c .before .before .before .before .leaf-key .ensures) (c .before .before .before .if1 .left) (c .before .if2 .taken)
+returns-3 c =
+    let at-if1 = c .before .before .before in
+    let at-leaf-key = at-if1 .before in
+    let at-end = at-leaf-key .before .before in
+    c .empty .ensures ∙ delete-root (walked (c .before .before .before .before .before .before .before .before)) (at-end .end .given .1) (at-leaf-key .leaf-key .ensures) (at-if1 .if1 .left) (c .before .if2 .taken)
 
 unlink-requires : tie.Need-unlink-requires
 unlink-requires c κs = let i = stands (c .before .before .before .before) .inside in
@@ -52,7 +56,11 @@ unlink-requires c κs = let i = stands (c .before .before .before .before) .insi
     (c .before .before .before .before .before .before .before .before .before .pre .0, p .accepted .j<, i .depth≤, omega (arith, p .accepted .w≤b))
 
 returns-4 : tie.Need-returns-4
-returns-4 c = c .unlink .ensures ∙ delete-below (walked (c .before .before .before .before .before .before .before .before)) (c .before .before .before .before .before .before .end .given .1) (c .before .before .before .before .leaf-key .ensures) (c .before .before .before .if1 .left) (c .before .if2 .left)
+returns-4 c =
+    let at-if1 = c .before .before .before in
+    let at-leaf-key = at-if1 .before in
+    let at-end = at-leaf-key .before .before in
+    c .unlink .ensures ∙ delete-below (walked (c .before .before .before .before .before .before .before .before)) (at-end .end .given .1) (at-leaf-key .leaf-key .ensures) (at-if1 .if1 .left) (c .before .if2 .left)
 
 pub find-removal-spec : {M : Type 1} → statement M
 find-removal-spec =

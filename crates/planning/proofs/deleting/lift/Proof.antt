@@ -29,22 +29,42 @@ enum-told-2 : tie.Need-enum-told-2
 enum-told-2 c = search needs
 
 returns-2 : tie.Need-returns-2
-returns-2 c = rw (← c .before .before .before .before .before .before .before .header .ensures, ← c .before .before .before .before .before .before .accept .ensures .0, c .before .before .before .before .b .given .1, ← c .before .before .lowest-leaf .ensures, c .enum-told2 .given .1)
+returns-2 c =
+    let at-lowest-leaf = c .before .before in
+    let at-b = at-lowest-leaf .before .before in
+    let at-accept = at-b .before .before in
+    let at-header = at-accept .before in
+    rw (← at-header .header .ensures, ← at-accept .accept .ensures .0, at-b .b .given .1, ← at-lowest-leaf .lowest-leaf .ensures, c .enum-told2 .given .1)
 
 node-word-requires : tie.Need-node-word-requires
 node-word-requires c κs = search needs
 
 sub-pack : tie.Need-sub-pack
-sub-pack c = let h = rw (c .before .before .before .before .before .before .before .b .given .1) at (c .before .before .before .before .before .before .before .before .before .accept .ensures .1) in omega arith
+sub-pack c =
+    let at-b = c .before .before .before .before .before .before .before in
+    let at-accept = at-b .before .before in
+    let h = rw (at-b .b .given .1) at (at-accept .accept .ensures .1) in
+    omega arith
 
 pack-requires : tie.Need-pack-requires
-pack-requires c κs = let h = rw (c .before .before .before .before .before .before .before .b .given .1) at (c .before .before .before .before .before .before .before .before .before .accept .ensures .1) in omega arith
+pack-requires c κs =
+    let at-b = c .before .before .before .before .before .before .before in
+    let at-accept = at-b .before .before in
+    let h = rw (at-b .b .given .1) at (at-accept .accept .ensures .1) in
+    omega arith
 
 add-t14 : tie.Need-add-t14
 add-t14 c = search needs
 
 returns-3 : tie.Need-returns-3
-returns-3 c = rw (← c .before .before .before .before .before .before .before .before .before .before .before .before .header .ensures, ← c .before .before .before .before .before .before .before .before .before .before .before .accept .ensures .0, c .before .before .before .before .before .before .before .before .before .b .given .1, ← c .before .before .before .before .before .before .before .lowest-leaf .ensures, c .before .before .before .before .before .near .given .1, c .before .before .before .node-word .ensures, c .before .pack .ensures)
+returns-3 c =
+    let at-node-word = c .before .before .before in
+    let at-near = at-node-word .before .before in
+    let at-lowest-leaf = at-near .before .before in
+    let at-b = at-lowest-leaf .before .before in
+    let at-accept = at-b .before .before in
+    let at-header = at-accept .before in
+    rw (← at-header .header .ensures, ← at-accept .accept .ensures .0, at-b .b .given .1, ← at-lowest-leaf .lowest-leaf .ensures, at-near .near .given .1, at-node-word .node-word .ensures, c .before .pack .ensures)
 
 pub lift-spec : {M : Type 1} → statement M
 lift-spec =

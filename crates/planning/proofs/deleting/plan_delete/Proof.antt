@@ -22,7 +22,9 @@ returns : tie.Need-returns
 returns c = c .refused .ensures ∙ ap plannedOf (delete-unsized _ _ (c .before .before .before .capacity .ensures .0) (c .before .enum-told .given .1))
 
 find-removal-requires : tie.Need-find-removal-requires
-find-removal-requires c κs = (rw (c .before .n .given .1) at (c .before .before .before .capacity .ensures .1), sym (c .before .before .before .capacity .ensures .0) ∙ c .before .n .given .1)
+find-removal-requires c κs =
+    let at-capacity = c .before .before .before in
+    (rw (c .before .n .given .1) at (at-capacity .capacity .ensures .1), sym (at-capacity .capacity .ensures .0) ∙ c .before .n .given .1)
 
 lay-requires : tie.Need-lay-requires
 lay-requires c κs = search needs

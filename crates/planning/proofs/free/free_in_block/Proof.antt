@@ -35,8 +35,10 @@ loop-less c = search needs
 
 loop-again : tie.Need-loop-again Inv-loop μ-loop
 loop-again c =
-    let a = c .before .before .before .before .before .before .args in
-    let l = c .before .before .before .before .loop in
+    let at-loop = c .before .before .before .before in
+    let start = at-loop .before .before in
+    let a = start .args in
+    let l = at-loop .loop in
     let here = c .before .free-or-past .ensures in
     (omega arith, ⊎-elim (λ w. rw (w .1) (least-lower (a .map .now) (a .at) (l .k) (l .least) _ (l .inv .1) here (w .0 .taken))) (λ w. rw (w .1) (least-kept (a .map .now) (a .at) (l .k) (l .least) _ (l .inv .1) here (w .0 .left))) (c .if1 .came))
 

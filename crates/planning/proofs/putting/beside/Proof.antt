@@ -22,7 +22,10 @@ enum-known-end c = search needs
 walked : (c : tie.After-walk-to)
     → let a = c .before .before .before .before .args in
     Walked (a .pool .now) (a .n) (a .key) (a .near) (c .before .before .first-diff .result) (c .walk-to .result)
-walked c = record { sized = c .before .before .before .before .pre; first = c .before .before .first-diff .ensures; differ = c .before .if1 .left; walks = c .walk-to .ensures }
+walked c =
+    let at-first-diff = c .before .before in
+    let start = at-first-diff .before .before in
+    record { sized = start .pre; first = at-first-diff .first-diff .ensures; differ = c .before .if1 .left; walks = c .walk-to .ensures }
 
 cleft-requires : tie.Need-cleft-requires
 cleft-requires c κs = leaf-at (walked (c .before .before .before)) (c .before .end .given .1)
@@ -48,10 +51,16 @@ add-if3 c =
     omega arith
 
 returns-5 : tie.Need-returns-5
-returns-5 c = gap-elsewhere (walked (c .before .before .before .before .before .before .before)) _ _ (c .before .before .before .before .end2 .given .1) (c .before .before .if2 .left) (c .if3 .taken)
+returns-5 c =
+    let at-if2 = c .before .before in
+    let at-end2 = at-if2 .before .before in
+    gap-elsewhere (walked (c .before .before .before .before .before .before .before)) _ _ (at-end2 .end2 .given .1) (at-if2 .if2 .left) (c .if3 .taken)
 
 returns-6 : tie.Need-returns-6
-returns-6 c = gap-there (walked (c .before .before .before .before .before .before .before)) _ _ (c .before .before .before .before .end2 .given .1) (c .before .before .if2 .left) (c .if3 .left)
+returns-6 c =
+    let at-if2 = c .before .before in
+    let at-end2 = at-if2 .before .before in
+    gap-there (walked (c .before .before .before .before .before .before .before)) _ _ (at-end2 .end2 .given .1) (at-if2 .if2 .left) (c .if3 .left)
 
 pub beside-spec : {M : Type 1} → statement M
 beside-spec =

@@ -21,13 +21,20 @@ beside-leaf-requires c κs =
     (z, sym e, i .within, omega (arith, i .inside .at<))
 
 returns : tie.Need-returns
-returns c = ends-lead (c .before .before .before .before .before .before .args .pool .now) _ _ (c .before .before .before .before .walk .ensures) (c .before .before .end .given .1) (c .beside-leaf .ensures)
+returns c =
+    let at-end = c .before .before in
+    let at-walk = at-end .before .before in
+    let start = at-walk .before .before in
+    ends-lead (start .args .pool .now) _ _ (at-walk .walk .ensures) (at-end .end .given .1) (c .beside-leaf .ensures)
 
 enum-known-end-2 : tie.Need-enum-known-end-2
 enum-known-end-2 c = search needs
 
 returns-2 : tie.Need-returns-2
-returns-2 c = ends-damaged (c .before .before .before .before .args .pool .now) _ _ (c .before .before .walk .ensures) (c .before .match .keys2) (c .match2 .keys2)
+returns-2 c =
+    let at-walk = c .before .before in
+    let start = at-walk .before .before in
+    ends-damaged (start .args .pool .now) _ _ (at-walk .walk .ensures) (c .before .match .keys2) (c .match2 .keys2)
 
 beside-empty-requires : tie.Need-beside-empty-requires
 beside-empty-requires c κs =

@@ -32,7 +32,10 @@ refused-requires-2 : tie.Need-refused-requires-2
 refused-requires-2 c κs = search needs
 
 returns-2 : tie.Need-returns-2
-returns-2 c = c .refused2 .ensures ∙ ap plannedOf (put-unmapped _ _ _ _ (c .before .before .before .before .before .capacity .ensures .0) (c .before .before .before .n .given .1) (c .before .if1 .taken))
+returns-2 c =
+    let at-n = c .before .before .before in
+    let at-capacity = at-n .before .before in
+    c .refused2 .ensures ∙ ap plannedOf (put-unmapped _ _ _ _ (at-capacity .capacity .ensures .0) (at-n .n .given .1) (c .before .if1 .taken))
 
 find-place-requires : tie.Need-find-place-requires
 find-place-requires c κs = rw (c .before .before .n .given .1) at (c .before .before .before .before .capacity .ensures .1)

@@ -43,7 +43,10 @@ array-write-values-3 c = search needs
 
 returns-2 : tie.Need-returns-2
 unfolding block
-returns-2 c = rw (← c .before .before .before .lowest-free .ensures, lt-ltb _ _ (c .before .before .if1 .left), c .before .leaf-word .ensures, c .leaf-ref .ensures)
+returns-2 c =
+    let at-if1 = c .before .before in
+    let at-lowest-free = at-if1 .before in
+    rw (← at-lowest-free .lowest-free .ensures, lt-ltb _ _ (at-if1 .if1 .left), c .before .leaf-word .ensures, c .leaf-ref .ensures)
 
 pub grow-spec : {M : Type 1} → statement M
 grow-spec =

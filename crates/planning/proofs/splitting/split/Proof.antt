@@ -59,11 +59,13 @@ array-write-values c = search needs
 
 returns-2 : tie.Need-returns-2
 returns-2 c =
+    let at-node-ref = c .before .before in
+    let at-split-values = at-node-ref .before in
     let w = c .before .before .before .before in
     let r = w .before .before .before .before in
     let a = r .before .before .args in
     rw (c .enum-told2 .given .1, ← r .find-room .ensures, w .before .before .leaf .given .1)
-    (leaf-planned (a .n) (a .s) _ _ (a .key) (a .value) _ (w .split-words .ensures) (c .before .before .before .split-values .ensures) (c .before .before .node-ref .ensures))
+    (leaf-planned (a .n) (a .s) _ _ (a .key) (a .value) _ (w .split-words .ensures) (at-split-values .split-values .ensures) (at-node-ref .node-ref .ensures))
 
 -- a node that is split off branches past the first differing digit
 branch : (c : tie.After-known-told2)

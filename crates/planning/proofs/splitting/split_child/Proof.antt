@@ -18,10 +18,16 @@ digit-requires-2 : tie.Need-digit-requires-2
 digit-requires-2 c κs = search needs
 
 returns-2 : tie.Need-returns-2
-returns-2 c = rw (ne-eqb _ _ (λ e. c .before .before .if1 .left (e ∙ sym (c .before .before .before .digit .ensures))), eq-eqb _ _ (c .if2 .taken ∙ c .before .digit2 .ensures))
+returns-2 c =
+    let at-if1 = c .before .before in
+    let at-digit = at-if1 .before in
+    rw (ne-eqb _ _ (λ e. at-if1 .if1 .left (e ∙ sym (at-digit .digit .ensures))), eq-eqb _ _ (c .if2 .taken ∙ c .before .digit2 .ensures))
 
 returns-3 : tie.Need-returns-3
-returns-3 c = rw (ne-eqb _ _ (λ e. c .before .before .if1 .left (e ∙ sym (c .before .before .before .digit .ensures))), ne-eqb _ _ (λ e. c .if2 .left (e ∙ sym (c .before .digit2 .ensures))))
+returns-3 c =
+    let at-if1 = c .before .before in
+    let at-digit = at-if1 .before in
+    rw (ne-eqb _ _ (λ e. at-if1 .if1 .left (e ∙ sym (at-digit .digit .ensures))), ne-eqb _ _ (λ e. c .if2 .left (e ∙ sym (c .before .digit2 .ensures))))
 
 pub split-child-spec : {M : Type 1} → statement M
 split-child-spec =

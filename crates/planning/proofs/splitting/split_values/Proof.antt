@@ -58,8 +58,10 @@ loop-less c = search needs
 
 loop-again : tie.Need-loop-again Inv-loop μ-loop
 loop-again c =
-    let a = c .before .before .before .before .before .args in
-    let l = c .before .before .loop in
+    let at-loop = c .before .before in
+    let start = at-loop .before .before .before in
+    let a = start .args in
+    let l = at-loop .loop in
     (omega arith, filled-on (a .key ∷ a .value ∷ headerOf (a .s .depth) (a .s .diff - a .s .depth) (a .key) ∷ []) (splitChild (a .s) (a .leaf) (a .key)) (l .c) (omega arith) (l .inv .1) (c .split-child .ensures))
 
 returns : tie.Need-returns Inv-loop μ-loop

@@ -57,9 +57,11 @@ loop-less c = search needs
 
 loop-again : tie.Need-loop-again Inv-loop μ-loop
 loop-again c =
-    let a = c .before .before .before .before .args in
+    let at-node-word = c .before .before in
+    let start = at-node-word .before .before in
+    let a = start .args in
     let l = c .before .loop in
-    (omega arith, filled-on (leafWord (a .leaf) ∷ (leafWord (a .leaf) + 1) ∷ []) (λ k. nodeWord (a .n) (a .node) + k) (l .i) (omega arith) (l .inv .1) (ap (λ (x : ℕ). x + l .i) (c .before .before .node-word .ensures)))
+    (omega arith, filled-on (leafWord (a .leaf) ∷ (leafWord (a .leaf) + 1) ∷ []) (λ k. nodeWord (a .n) (a .node) + k) (l .i) (omega arith) (l .inv .1) (ap (λ (x : ℕ). x + l .i) (at-node-word .node-word .ensures)))
 
 returns : tie.Need-returns Inv-loop μ-loop
 returns c =

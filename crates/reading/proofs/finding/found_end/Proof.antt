@@ -27,7 +27,10 @@ enum-told-3 : tie.Need-enum-told-3
 enum-told-3 c = search needs
 
 returns : tie.Need-returns
-returns c = rw (c .before .before .before .before .r .given .1, ← c .before .before .leaf-key .ensures, eq-eqb _ _ (c .before .if1 .taken), c .leaf-value .ensures)
+returns c =
+    let at-leaf-key = c .before .before in
+    let at-r = at-leaf-key .before .before in
+    rw (at-r .r .given .1, ← at-leaf-key .leaf-key .ensures, eq-eqb _ _ (c .before .if1 .taken), c .leaf-value .ensures)
 
 returns-2 : tie.Need-returns-2
 returns-2 c = rw (c .before .before .before .r .given .1, ← c .before .leaf-key .ensures, ne-eqb _ _ (c .if1 .left))

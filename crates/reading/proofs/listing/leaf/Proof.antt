@@ -30,7 +30,10 @@ new-requires-2 c κs = search needs
 
 returns-3 : tie.Need-returns-3
 unfolding leafOf
-returns-3 c = simp (lt-leb _ _ (c .before .before .before .if1 .left), le-ltb _ _ (c .before .before .if2 .left), le-leb _ _ (c .before .if3 .taken), c .new2 .ensures)
+returns-3 c =
+    let at-if2 = c .before .before in
+    let at-if1 = at-if2 .before in
+    simp (lt-leb _ _ (at-if1 .if1 .left), le-ltb _ _ (at-if2 .if2 .left), le-leb _ _ (c .before .if3 .taken), c .new2 .ensures)
 
 mul-keys : tie.Need-mul-keys
 mul-keys c = search needs
@@ -61,7 +64,10 @@ same-length-2 c = search needs
 
 returns-4 : tie.Need-returns-4
 unfolding leafOf
-returns-4 c = simp (lt-leb _ _ (c .before .before .before .if1 .left), le-ltb _ _ (c .before .before .if2 .left), lt-leb _ _ (c .before .if3 .left), c .new3 .ensures)
+returns-4 c =
+    let at-if2 = c .before .before in
+    let at-if1 = at-if2 .before in
+    simp (lt-leb _ _ (at-if1 .if1 .left), le-ltb _ _ (at-if2 .if2 .left), lt-leb _ _ (c .before .if3 .left), c .new3 .ensures)
 
 pub leaf-spec : {M : Type 1} → statement M
 leaf-spec =

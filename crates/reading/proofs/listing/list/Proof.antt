@@ -59,8 +59,11 @@ shared-slice-read-visit-ref c =
 
 visit-ref-requires : tie.Need-visit-ref-requires
 visit-ref-requires c κs =
-    let z = rw (c .before .before .before .before .before .before .before .n .given .1) at (c .before .before .before .before .before .before .before .before .before .capacity .ensures .1) in
-    (z, c .before .before .before .before .if2 .left, omega arith)
+    let at-if2 = c .before .before .before .before in
+    let at-n = at-if2 .before .before .before in
+    let at-capacity = at-n .before .before in
+    let z = rw (at-n .n .given .1) at (at-capacity .capacity .ensures .1) in
+    (z, at-if2 .if2 .left, omega arith)
 
 clear-requires : tie.Need-clear-requires
 clear-requires c κs = search needs

@@ -42,7 +42,11 @@ tagged-requires : tie.Need-tagged-requires
 tagged-requires c κs = search needs
 
 returns-6 : tie.Need-returns-6
-returns-6 c = let s = c .before .before .before .before .before .before .before .before .before .args .line .now in c .tagged .ensures ∙ sym (more-bytes s (omega arith) (omega arith) ∙ simp (eq-eqb (getD s 1 0) _ (c .before .before .if5 .left), part-to-end))
+returns-6 c =
+    let at-if5 = c .before .before in
+    let start = at-if5 .before .before .before .before .before .before .before in
+    let s = start .args .line .now in
+    c .tagged .ensures ∙ sym (more-bytes s (omega arith) (omega arith) ∙ simp (eq-eqb (getD s 1 0) _ (at-if5 .if5 .left), part-to-end))
 
 pub command-of-spec : {M : Type 1} → statement M
 command-of-spec =

@@ -51,7 +51,10 @@ put-requires c κs = search needs
 
 returns-3 : tie.Need-returns-3
 unfolding keyAndValueOf
-returns-3 c = c .put .ensures ∙ simp (eq-eqb _ _ (c .before .before .before .before .before .if2 .left), c .before .decimal .ensures, c .before .before .before .key .ensures, part-to-end)
+returns-3 c =
+    let at-key = c .before .before .before in
+    let at-if2 = at-key .before .before in
+    c .put .ensures ∙ simp (eq-eqb _ _ (at-if2 .if2 .left), c .before .decimal .ensures, at-key .key .ensures, part-to-end)
 
 pub key-and-value-spec : {M : Type 1} → statement M
 key-and-value-spec =

@@ -31,7 +31,11 @@ enum-told : tie.Need-enum-told Inv-loop μ-loop
 enum-told c = search needs
 
 returns : tie.Need-returns Inv-loop μ-loop
-returns c = sym (stops _ (c .before .before .before .before .before .loop .x) _ _ (c .before .before .before .before .loop-test .taken) (sym (c .before .before .with-digit .ensures) ∙ c .enum-told .given .1)) ∙ c .before .before .before .before .before .loop .inv .1
+returns c =
+    let at-with-digit = c .before .before in
+    let at-loop-test = at-with-digit .before .before in
+    let at-loop = at-loop-test .before in
+    sym (stops _ (at-loop .loop .x) _ _ (at-loop-test .loop-test .taken) (sym (at-with-digit .with-digit .ensures) ∙ c .enum-told .given .1)) ∙ at-loop .loop .inv .1
 
 add-i : tie.Need-add-i Inv-loop μ-loop
 add-i c = search needs
@@ -40,7 +44,11 @@ loop-less : tie.Need-loop-less Inv-loop μ-loop
 loop-less c = search needs
 
 loop-again : tie.Need-loop-again Inv-loop μ-loop
-loop-again c = (search needs, sym (reads-on _ _ _ _ (c .before .before .before .before .before .loop-test .taken) _ (sym (c .before .before .before .with-digit .ensures) ∙ c .before .y .given .1)) ∙ c .before .before .before .before .before .before .loop .inv .1)
+loop-again c =
+    let at-with-digit = c .before .before .before in
+    let at-loop-test = at-with-digit .before .before in
+    let at-loop = at-loop-test .before in
+    (search needs, sym (reads-on _ _ _ _ (at-loop-test .loop-test .taken) _ (sym (at-with-digit .with-digit .ensures) ∙ c .before .y .given .1)) ∙ at-loop .loop .inv .1)
 
 returns-2 : tie.Need-returns-2 Inv-loop μ-loop
 returns-2 c = sym (read-out _ _ _ _ (c .loop-test .left)) ∙ c .before .loop .inv .1

@@ -22,8 +22,12 @@ same-length-3 : tie.Need-same-length-3
 same-length-3 c = search needs
 
 returns : tie.Need-returns
-returns c = let a = c .before .before .before .before .before .before .before .before .before .before .before .before .before .before .before .args in
-    end-taken (stream (a .reader) (a .line .now) (a .pool .now) (a .map .now) (page (a .out .now) 0)) _ _ (c .before .before .before .before .before .before .before .before .before .before .end .ensures) (c .before .before .before .before .before .before .perform .ensures)
+returns c =
+    let at-perform = c .before .before .before .before .before .before in
+    let at-end = at-perform .before .before .before .before in
+    let start = at-end .before .before .before .before .before in
+    let a = start .args in
+    end-taken (stream (a .reader) (a .line .now) (a .pool .now) (a .map .now) (page (a .out .now) 0)) _ _ (at-end .end .ensures) (at-perform .perform .ensures)
 
 pub finish-spec : {M : Type 1} → statement M
 finish-spec =

@@ -24,7 +24,10 @@ same-length-3 c = search needs
 
 returns : tie.Need-returns
 unfolding printed
-returns c = rw (← c .before .before .before .before .before .before .before .before .before .before .before .before .before .run .ensures, ← c .before .before .before .before .before .before .before .before .«open» .ensures, c .before .before .write-answer .ensures)
+returns c =
+    let at-write-answer = c .before .before in
+    let at-run = at-write-answer .before .before .before .before .before .before .before .before .before .before .before in
+    rw (← at-run .run .ensures, ← c .before .before .before .before .before .before .before .before .«open» .ensures, at-write-answer .write-answer .ensures)
 
 pub cut-spec : {M : Type 1} → statement M
 cut-spec =

@@ -17,7 +17,11 @@ same-length c = search needs
 
 returns : tie.Need-returns
 unfolding printed
-returns c = rw (← c .before .before .before .before .before .lookup .ensures, ← c .before .before .before .before .found .ensures) (c .before .before .write-answer .ensures)
+returns c =
+    let at-write-answer = c .before .before in
+    let at-found = at-write-answer .before .before in
+    let at-lookup = at-found .before in
+    rw (← at-lookup .lookup .ensures, ← at-found .found .ensures) (at-write-answer .write-answer .ensures)
 
 pub get-spec : {M : Type 1} → statement M
 get-spec =

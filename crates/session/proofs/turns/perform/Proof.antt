@@ -66,7 +66,10 @@ same-length-3 c = search needs
 
 returns : tie.Need-returns
 unfolding leaves answersOf
-returns c = rw (c .before .before .before .before .before .before .before .before .before .before .before .turn .given .1) (c .before .before .before .before .before .before .put .ensures)
+returns c =
+    let at-put = c .before .before .before .before .before .before in
+    let at-turn = at-put .before .before .before .before .before in
+    rw (at-turn .turn .given .1) (at-put .put .ensures)
 
 same-length-4 : tie.Need-same-length-4
 same-length-4 c = search needs
@@ -79,7 +82,10 @@ same-length-6 c = search needs
 
 returns-2 : tie.Need-returns-2
 unfolding leaves answersOf
-returns-2 c = rw (c .before .before .before .before .before .before .before .before .before .before .before .turn2 .given .1) (c .before .before .before .before .before .before .delete .ensures)
+returns-2 c =
+    let at-delete = c .before .before .before .before .before .before in
+    let at-turn2 = at-delete .before .before .before .before .before in
+    rw (at-turn2 .turn2 .given .1) (at-delete .delete .ensures)
 
 same-length-7 : tie.Need-same-length-7
 same-length-7 c = search needs
@@ -112,7 +118,11 @@ same-length-13 c = search needs
 
 returns-5 : tie.Need-returns-5
 unfolding leaves answersOf
-returns-5 c = rw (c .before .before .before .before .before .before .before .before .before .before .before .before .before .before .turn4 .given .1) (rw (c .before .before .before .before .before .before .before .before .before .before .plan-put .ensures) at (c .before .before .before .before .before .before .cut .ensures))
+returns-5 c =
+    let at-cut = c .before .before .before .before .before .before in
+    let at-plan-put = at-cut .before .before .before .before in
+    let at-turn4 = at-plan-put .before .before .before .before in
+    rw (at-turn4 .turn4 .given .1) (rw (at-plan-put .plan-put .ensures) at (at-cut .cut .ensures))
 
 same-length-14 : tie.Need-same-length-14
 same-length-14 c = search needs
@@ -125,7 +135,11 @@ same-length-16 c = search needs
 
 returns-6 : tie.Need-returns-6
 unfolding leaves answersOf
-returns-6 c = rw (c .before .before .before .before .before .before .before .before .before .before .before .before .before .turn5 .given .1) (rw (c .before .before .before .before .before .before .before .before .before .before .plan-delete .ensures) at (c .before .before .before .before .before .before .cut2 .ensures))
+returns-6 c =
+    let at-cut2 = c .before .before .before .before .before .before in
+    let at-plan-delete = at-cut2 .before .before .before .before in
+    let at-turn5 = at-plan-delete .before .before .before in
+    rw (at-turn5 .turn5 .given .1) (rw (at-plan-delete .plan-delete .ensures) at (at-cut2 .cut2 .ensures))
 
 returns-7 : tie.Need-returns-7
 unfolding leaves answersOf printed

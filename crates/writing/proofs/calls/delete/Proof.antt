@@ -42,7 +42,10 @@ returns-2 c =
     (delete-unmapped _ _ _ (c .before .before .before .before .before .capacity .ensures .0) (c .before .before .before .n .given .1) (c .before .if1 .taken))
 
 find-removal-requires : tie.Need-find-removal-requires
-find-removal-requires c κs = (rw (c .before .before .before .n .given .1) at (c .before .before .before .before .before .capacity .ensures .1), sym (c .before .before .before .before .before .capacity .ensures .0) ∙ c .before .before .before .n .given .1)
+find-removal-requires c κs =
+    let at-n = c .before .before .before in
+    let at-capacity = at-n .before .before in
+    (rw (at-n .n .given .1) at (at-capacity .capacity .ensures .1), sym (at-capacity .capacity .ensures .0) ∙ at-n .n .given .1)
 
 remove-requires : tie.Need-remove-requires
 remove-requires c κs = search needs
@@ -54,7 +57,13 @@ same-length-4 : tie.Need-same-length-4
 same-length-4 c = search needs
 
 returns-3 : tie.Need-returns-3
-returns-3 c = delete-made _ _ _ (c .before .before .before .before .before .before .before .before .before .before .before .before .before .capacity .ensures .0) (c .before .before .before .before .before .before .before .before .before .before .before .n .given .1) (c .before .before .before .before .before .before .before .before .before .if1 .left) (c .before .before .before .before .before .before .before .find-removal .ensures) (c .before .before .before .before .remove .ensures)
+returns-3 c =
+    let at-remove = c .before .before .before .before in
+    let at-find-removal = at-remove .before .before .before in
+    let at-if1 = at-find-removal .before .before in
+    let at-n = at-if1 .before .before in
+    let at-capacity = at-n .before .before in
+    delete-made _ _ _ (at-capacity .capacity .ensures .0) (at-n .n .given .1) (at-if1 .if1 .left) (at-find-removal .find-removal .ensures) (at-remove .remove .ensures)
 
 pub delete-spec : {M : Type 1} → statement M
 delete-spec =

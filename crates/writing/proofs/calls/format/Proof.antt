@@ -52,8 +52,10 @@ same-length-2 c = search needs
 
 returns-3 : tie.Need-returns-3
 returns-3 c =
+    let at-clear = c .before .before in
+    let at-if1 = at-clear .before .before in
     let l = c .before .before .before .before .before .before in
-    format-made _ _ _ (l .before .before .size-of .ensures) (l .leaves .given .1) (c .before .before .before .before .if1 .left) (c .before .before .clear .ensures)
+    format-made _ _ _ (l .before .before .size-of .ensures) (l .leaves .given .1) (at-if1 .if1 .left) (at-clear .clear .ensures)
 
 pub format-spec : {M : Type 1} → statement M
 format-spec =

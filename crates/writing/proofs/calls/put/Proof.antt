@@ -41,14 +41,22 @@ same-length-2 c = search needs
 
 returns-2 : tie.Need-returns-2
 returns-2 c =
-    put-made _ _ _ _ (put-unmapped _ _ _ _ (c .before .before .before .before .before .capacity .ensures .0) (c .before .before .before .n .given .1) (c .before .if1 .taken))
+    let at-n = c .before .before .before in
+    let at-capacity = at-n .before .before in
+    put-made _ _ _ _ (put-unmapped _ _ _ _ (at-capacity .capacity .ensures .0) (at-n .n .given .1) (c .before .if1 .taken))
     (rw (c .refused2 .ensures) (whole-none _ _ 1))
 
 find-place-requires : tie.Need-find-place-requires
 find-place-requires c κs = rw (c .before .before .before .n .given .1) at (c .before .before .before .before .before .capacity .ensures .1)
 
 put-at-requires : tie.Need-put-at-requires
-put-at-requires c κs = let z = rw (c .before .before .before .before .before .before .n .given .1) at (c .before .before .before .before .before .before .before .before .capacity .ensures .1) in (z .some, z .most, c .before .before .before .before .if1 .left, c .before .before .find-place .ensures .able)
+put-at-requires c κs =
+    let at-find-place = c .before .before in
+    let at-if1 = at-find-place .before .before in
+    let at-n = at-if1 .before .before in
+    let at-capacity = at-n .before .before in
+    let z = rw (at-n .n .given .1) at (at-capacity .capacity .ensures .1) in
+    (z .some, z .most, at-if1 .if1 .left, at-find-place .find-place .ensures .able)
 
 same-length-3 : tie.Need-same-length-3
 same-length-3 c = search needs
@@ -57,7 +65,13 @@ same-length-4 : tie.Need-same-length-4
 same-length-4 c = search needs
 
 returns-3 : tie.Need-returns-3
-returns-3 c = put-made _ _ _ _ (put-placed _ _ _ _ (c .before .before .before .before .before .before .before .before .before .before .before .before .before .capacity .ensures .0) (c .before .before .before .before .before .before .before .before .before .before .before .n .given .1) (c .before .before .before .before .before .before .before .before .before .if1 .left) (c .before .before .before .before .before .before .before .find-place .ensures)) (c .before .before .before .before .put-at .ensures)
+returns-3 c =
+    let at-put-at = c .before .before .before .before in
+    let at-find-place = at-put-at .before .before .before in
+    let at-if1 = at-find-place .before .before in
+    let at-n = at-if1 .before .before in
+    let at-capacity = at-n .before .before in
+    put-made _ _ _ _ (put-placed _ _ _ _ (at-capacity .capacity .ensures .0) (at-n .n .given .1) (at-if1 .if1 .left) (at-find-place .find-place .ensures)) (at-put-at .put-at .ensures)
 
 pub put-spec : {M : Type 1} → statement M
 put-spec =

@@ -15,8 +15,10 @@ same-length c = search needs
 
 returns : tie.Need-returns
 returns c =
-    let a = c .before .before .before .before .before .before .args in
-    rw (c .refused .ensures) (grow-full (a .pool .now) (a .map .now) (a .n) (a .key) (a .value) (a .at) (c .before .before .lowest-free .ensures) (c .before .if1 .taken))
+    let at-lowest-free = c .before .before in
+    let start = at-lowest-free .before .before .before .before in
+    let a = start .args in
+    rw (c .refused .ensures) (grow-full (a .pool .now) (a .map .now) (a .n) (a .key) (a .value) (a .at) (at-lowest-free .lowest-free .ensures) (c .before .if1 .taken))
 
 make-leaf-requires : tie.Need-make-leaf-requires
 make-leaf-requires c κs = search needs
@@ -37,8 +39,16 @@ same-length-3 : tie.Need-same-length-3
 same-length-3 c = search needs
 
 returns-2 : tie.Need-returns-2
-returns-2 c = let a = c .before .before .before .before .before .before .before .before .before .before .before .before .before .before .before .before .before .before .args in
-    grow-made (a .pool .now) (a .map .now) (a .n) (a .key) (a .value) (a .at) (c .before .before .before .before .before .before .before .before .before .before .before .before .before .before .lowest-free .ensures) (c .before .before .before .before .before .before .before .before .before .before .before .before .before .if1 .left) (c .before .before .before .before .before .before .before .before .before .before .before .make-leaf .ensures) (c .before .before .before .before .before .before .before .leaf-ref .ensures) (c .before .before .before .before .before .before .store .ensures) (c .before .before .take-effect .ensures)
+returns-2 c =
+    let at-take-effect = c .before .before in
+    let at-store = at-take-effect .before .before .before .before in
+    let at-leaf-ref = at-store .before in
+    let at-make-leaf = at-leaf-ref .before .before .before .before in
+    let at-if1 = at-make-leaf .before .before in
+    let at-lowest-free = at-if1 .before in
+    let start = at-lowest-free .before .before .before .before in
+    let a = start .args in
+    grow-made (a .pool .now) (a .map .now) (a .n) (a .key) (a .value) (a .at) (at-lowest-free .lowest-free .ensures) (at-if1 .if1 .left) (at-make-leaf .make-leaf .ensures) (at-leaf-ref .leaf-ref .ensures) (at-store .store .ensures) (at-take-effect .take-effect .ensures)
 
 pub make-grow-spec : {M : Type 1} → statement M
 make-grow-spec =

@@ -21,7 +21,12 @@ same-length : tie.Need-same-length
 same-length c = search needs
 
 returns : tie.Need-returns
-returns c = leaf-made _ (leafWord (c .before .before .before .before .before .before .before .before .before .before .args .leaf)) _ _ (rw (c .before .before .before .before .before .before .before .before .leaf-word .ensures) at (c .before .before .before .before .before .before .store .ensures)) (rw (c .before .before .before .before .before .before .before .before .leaf-word .ensures) at (c .before .before .store2 .ensures))
+returns c =
+    let at-store2 = c .before .before in
+    let at-store = at-store2 .before .before .before .before in
+    let at-leaf-word = at-store .before .before in
+    let start = at-leaf-word .before .before in
+    leaf-made _ (leafWord (start .args .leaf)) _ _ (rw (at-leaf-word .leaf-word .ensures) at (at-store .store .ensures)) (rw (at-leaf-word .leaf-word .ensures) at (at-store2 .store2 .ensures))
 
 pub make-leaf-spec : {M : Type 1} → statement M
 make-leaf-spec =

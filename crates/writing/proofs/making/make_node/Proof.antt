@@ -50,18 +50,27 @@ loop-less : tie.Need-loop-less Inv-loop μ-loop
 loop-less c = search needs
 
 loop-again : tie.Need-loop-again Inv-loop μ-loop
-loop-again c = let l = c .before .before .before .before .before .before .loop in
-    let a = c .before .before .before .before .before .before .before .before .before .before .before .before .before .before .args in
-    (omega arith, omega arith, children-on _ (a .word + 1) (splitChild (a .s) (a .leaf) (a .key)) (l .c) (l .inv .2) (c .before .before .before .split-child .ensures) (c .before .before .store2 .ensures))
+loop-again c =
+    let at-store2 = c .before .before in
+    let at-split-child = at-store2 .before in
+    let at-loop = at-split-child .before .before .before in
+    let start = at-loop .before .before .before .before .before .before .before .before in
+    let l = at-loop .loop in
+    let a = start .args in
+    (omega arith, omega arith, children-on _ (a .word + 1) (splitChild (a .s) (a .leaf) (a .key)) (l .c) (l .inv .2) (at-split-child .split-child .ensures) (at-store2 .store2 .ensures))
 
 same-length : tie.Need-same-length Inv-loop μ-loop
 same-length c = search needs
 
 returns : tie.Need-returns Inv-loop μ-loop
-returns c = let l = c .before .loop in
-    let a = c .before .before .before .before .before .before .before .before .before .args in
+returns c =
+    let at-store = c .before .before .before .before in
+    let at-pack = at-store .before in
+    let start = at-pack .before .before .before .before in
+    let l = c .before .loop in
+    let a = start .args in
     let c16 : l .c ≡ 16 = omega arith in
-    node-made (a .pool .now) (a .word) (headerOf (a .s .depth) (a .s .diff - a .s .depth) (a .key)) (tab 16 (splitChild (a .s) (a .leaf) (a .key))) (rw (c .before .before .before .before .before .pack .ensures) at (c .before .before .before .before .store .ensures)) (rw c16 at (l .inv .2))
+    node-made (a .pool .now) (a .word) (headerOf (a .s .depth) (a .s .diff - a .s .depth) (a .key)) (tab 16 (splitChild (a .s) (a .leaf) (a .key))) (rw (at-pack .pack .ensures) at (at-store .store .ensures)) (rw c16 at (l .inv .2))
 
 pub make-node-spec : {M : Type 1} → statement M
 make-node-spec =

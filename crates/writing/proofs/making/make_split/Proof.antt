@@ -26,9 +26,11 @@ same-length c = search needs
 
 returns : tie.Need-returns
 returns c =
-    let a = c .before .before .before .before .before .before .before .args in
+    let at-find-room = c .before .before .before in
+    let start = at-find-room .before .before .before .before in
+    let a = start .args in
     rw (c .refused .ensures)
-    (split-full (a .pool .now) (a .map .now) (a .n) (a .s) (a .key) (a .value) (a .target) (c .before .before .before .find-room .ensures) (c .before .enum-told .given .1))
+    (split-full (a .pool .now) (a .map .now) (a .n) (a .s) (a .key) (a .value) (a .target) (at-find-room .find-room .ensures) (c .before .enum-told .given .1))
 
 -- where the two slots are
 slots : (c : tie.After-known-told)
@@ -50,7 +52,10 @@ node-word-requires : tie.Need-node-word-requires
 node-word-requires c κs = let h = slots (c .before .before .before .before .before) in (omega arith, omega arith)
 
 make-node-requires : tie.Need-make-node-requires
-make-node-requires c κs = let h = slots (c .before .before .before .before .before .before) in (omega (arith, c .node-word .ensures), omega arith, c .before .before .before .before .before .before .before .before .before .before .before .before .before .pre .3, c .before .before .before .before .before .before .before .before .before .before .before .before .before .pre .4)
+make-node-requires c κs =
+    let start = c .before .before .before .before .before .before .before .before .before .before .before .before .before in
+    let h = slots (c .before .before .before .before .before .before) in
+    (omega (arith, c .node-word .ensures), omega arith, start .pre .3, start .pre .4)
 
 make-target-requires : tie.Need-make-target-requires
 make-target-requires c κs = search needs
@@ -65,7 +70,10 @@ take-effect-requires : tie.Need-take-effect-requires
 take-effect-requires c κs = search needs
 
 add-t20 : tie.Need-add-t20
-add-t20 c = omega (arith, c .before .before .before .before .before .before .before .before .before .before .before .make-target .ensures .0, target-few (c .before .before .before .before .before .before .before .before .before .before .before .before .before .before .before .before .before .before .before .before .before .before .before .before .before .before .before .before .before .args .n) (c .before .before .before .before .before .before .before .before .before .before .before .before .before .before .before .before .before .before .before .before .before .before .before .before .before .before .before .before .before .args .s) (c .before .before .before .before .before .before .before .before .before .before .before .before .before .before .before .before .before .before .before .before .before .before .before .before .before .before .before .before .before .args .target))
+add-t20 c =
+    let at-make-target = c .before .before .before .before .before .before .before .before .before .before .before in
+    let start = at-make-target .before .before .before .before .before .before .before .before .before .before .before .before .before .before .before .before .before .before in
+    omega (arith, at-make-target .make-target .ensures .0, target-few (start .args .n) (start .args .s) (start .args .target))
 
 same-length-2 : tie.Need-same-length-2
 same-length-2 c = search needs
@@ -74,8 +82,19 @@ same-length-3 : tie.Need-same-length-3
 same-length-3 c = search needs
 
 returns-2 : tie.Need-returns-2
-returns-2 c = let a = c .before .before .before .before .before .before .before .before .before .before .before .before .before .before .before .before .before .before .before .before .before .before .before .before .before .before .before .before .before .args in
-    split-made (a .pool .now) (a .map .now) (a .n) (a .s) (a .key) (a .value) (a .target) (c .before .before .before .before .before .before .before .before .before .before .before .before .before .before .before .before .before .before .before .before .before .before .before .before .before .find-room .ensures) (c .before .before .before .before .before .before .before .before .before .before .before .before .before .before .before .before .before .before .before .before .before .before .before .leaf .given .1) (c .before .before .before .before .before .before .before .before .before .before .before .before .before .before .before .before .before .before .before .before .make-leaf .ensures) (rw (c .before .before .before .before .before .before .before .before .before .before .before .before .before .before .before .before .node-word .ensures) at (c .before .before .before .before .before .before .before .before .before .before .before .before .before .before .before .make-node .ensures)) (c .before .before .before .before .before .before .before .before .before .before .before .make-target .ensures .0) (c .before .before .before .before .before .before .before .before .before .before .before .make-target .ensures .1) (c .before .before .before .before .before .before .before .node-ref .ensures) (c .before .before .before .before .before .before .store .ensures) (c .before .before .take-effect .ensures)
+returns-2 c =
+    let at-take-effect = c .before .before in
+    let at-store = at-take-effect .before .before .before .before in
+    let at-node-ref = at-store .before in
+    let at-make-target = at-node-ref .before .before .before .before in
+    let at-make-node = at-make-target .before .before .before .before in
+    let at-node-word = at-make-node .before in
+    let at-make-leaf = at-node-word .before .before .before .before in
+    let at-leaf = at-make-leaf .before .before .before in
+    let at-find-room = at-leaf .before .before in
+    let start = at-find-room .before .before .before .before in
+    let a = start .args in
+    split-made (a .pool .now) (a .map .now) (a .n) (a .s) (a .key) (a .value) (a .target) (at-find-room .find-room .ensures) (at-leaf .leaf .given .1) (at-make-leaf .make-leaf .ensures) (rw (at-node-word .node-word .ensures) at (at-make-node .make-node .ensures)) (at-make-target .make-target .ensures .0) (at-make-target .make-target .ensures .1) (at-node-ref .node-ref .ensures) (at-store .store .ensures) (at-take-effect .take-effect .ensures)
 
 pub make-split-spec : {M : Type 1} → statement M
 make-split-spec =

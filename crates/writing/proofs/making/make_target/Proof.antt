@@ -18,19 +18,34 @@ unfolding made
 returns c = rw (c .enum-told .given .1) (refl, refl)
 
 node-word-requires : tie.Need-node-word-requires
-node-word-requires c κs = let h = rw (c .before .target .given .1) at (c .before .before .before .before .pre .2) in (c .before .before .before .before .pre .0, omega (arith, h .0))
+node-word-requires c κs =
+    let start = c .before .before .before .before in
+    let h = rw (c .before .target .given .1) at (start .pre .2) in
+    (start .pre .0, omega (arith, h .0))
 
 add-pack : tie.Need-add-pack
 add-pack c = search needs
 
 sub-pack : tie.Need-sub-pack
-sub-pack c = let h = rw (c .before .before .before .before .before .target .given .1) at (c .before .before .before .before .before .before .before .before .pre .2) in omega (arith, h .1)
+sub-pack c =
+    let at-target = c .before .before .before .before .before in
+    let start = at-target .before .before .before in
+    let h = rw (at-target .target .given .1) at (start .pre .2) in
+    omega (arith, h .1)
 
 sub-pack-2 : tie.Need-sub-pack-2
-sub-pack-2 c = let h = rw (c .before .before .before .before .before .target .given .1) at (c .before .before .before .before .before .before .before .before .pre .2) in omega (arith, h .1)
+sub-pack-2 c =
+    let at-target = c .before .before .before .before .before in
+    let start = at-target .before .before .before in
+    let h = rw (at-target .target .given .1) at (start .pre .2) in
+    omega (arith, h .1)
 
 pack-requires : tie.Need-pack-requires
-pack-requires c κs = let h = rw (c .before .before .before .before .before .target .given .1) at (c .before .before .before .before .before .before .before .before .pre .2) in omega (arith, h .1, h .2)
+pack-requires c κs =
+    let at-target = c .before .before .before .before .before in
+    let start = at-target .before .before .before in
+    let h = rw (at-target .target .given .1) at (start .pre .2) in
+    omega (arith, h .1, h .2)
 
 store-requires : tie.Need-store-requires
 store-requires c κs = search needs
@@ -40,7 +55,13 @@ same-length c = search needs
 
 returns-2 : tie.Need-returns-2
 unfolding made
-returns-2 c = rw (c .before .before .before .before .before .before .before .before .before .target .given .1) (refl, rw (← c .before .before .before .before .before .before .before .node-word .ensures, ← c .before .before .before .pack .ensures) (stored (c .before .before .before .before .before .before .before .before .before .before .before .before .args .pool .now) (c .before .before .before .before .before .before .before .node-word .result) (c .before .before .before .pack .result) (c .before .before .store .ensures)))
+returns-2 c =
+    let at-store = c .before .before in
+    let at-pack = at-store .before in
+    let at-node-word = at-pack .before .before .before .before in
+    let at-target = at-node-word .before .before in
+    let start = at-target .before .before .before in
+    rw (at-target .target .given .1) (refl, rw (← at-node-word .node-word .ensures, ← at-pack .pack .ensures) (stored (start .args .pool .now) (at-node-word .node-word .result) (at-pack .pack .result) (at-store .store .ensures)))
 
 pub make-target-spec : {M : Type 1} → statement M
 make-target-spec =

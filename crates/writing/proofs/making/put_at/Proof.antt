@@ -29,7 +29,11 @@ enum-known-place-3 : tie.Need-enum-known-place-3
 enum-known-place-3 c = search needs
 
 make-split-requires : tie.Need-make-split-requires
-make-split-requires c κs = let h = rw (c .before .before .before .place3 .given .1) at (c .before .before .before .before .before .before .before .pre .3) in (c .before .before .before .before .before .before .before .pre .1, c .before .before .before .before .before .before .before .pre .2, c .before .before .before .before .before .before .before .pre .0, h .0, h .1, h .2)
+make-split-requires c κs =
+    let at-place3 = c .before .before .before in
+    let start = at-place3 .before .before .before .before in
+    let h = rw (at-place3 .place3 .given .1) at (start .pre .3) in
+    (start .pre .1, start .pre .2, start .pre .0, h .0, h .1, h .2)
 
 enum-known-place-4 : tie.Need-enum-known-place-4
 enum-known-place-4 c = search needs
@@ -41,7 +45,12 @@ same-length : tie.Need-same-length
 same-length c = search needs
 
 returns : tie.Need-returns
-returns c = rw (c .before .before .before .before .before .before .place .given .1, ← c .before .before .before .leaf-word .ensures) (one-made (c .before .before .before .before .before .before .before .before .before .before .args .pool .now) (c .before .before .before .before .before .before .before .before .before .before .args .map .now) _ _ Nothing (c .before .before .store .ensures) refl)
+returns c =
+    let at-store = c .before .before in
+    let at-leaf-word = at-store .before in
+    let at-place = at-leaf-word .before .before .before in
+    let start = at-place .before .before .before .before in
+    rw (at-place .place .given .1, ← at-leaf-word .leaf-word .ensures) (one-made (start .args .pool .now) (start .args .map .now) _ _ Nothing (at-store .store .ensures) refl)
 
 same-length-2 : tie.Need-same-length-2
 same-length-2 c = search needs

@@ -51,7 +51,12 @@ same-length-2 : tie.Need-same-length-2
 same-length-2 c = search needs
 
 returns-2 : tie.Need-returns-2
-returns-2 c = rw (c .before .before .before .before .before .before .before .before .before .removal2 .given .1) (one-made _ (c .before .before .before .before .before .before .before .before .before .before .before .before .before .args .map .now) _ _ (FreesLeaf (c .before .before .before .before .before .before .before .before .before .removal2 .given .0 .1 .0)) (c .before .before .before .before .before .before .store .ensures) (c .before .before .take-effect .ensures))
+returns-2 c =
+    let at-take-effect = c .before .before in
+    let at-store = at-take-effect .before .before .before .before in
+    let at-removal2 = at-store .before .before .before in
+    let start = at-removal2 .before .before .before .before in
+    rw (at-removal2 .removal2 .given .1) (one-made _ (start .args .map .now) _ _ (FreesLeaf (at-removal2 .removal2 .given .0 .1 .0)) (at-store .store .ensures) (at-take-effect .take-effect .ensures))
 
 same-length-3 : tie.Need-same-length-3
 same-length-3 c = search needs
@@ -60,8 +65,13 @@ same-length-4 : tie.Need-same-length-4
 same-length-4 c = search needs
 
 returns-3 : tie.Need-returns-3
-returns-3 c = let d = c .before .before .before .before .before .before .before .before .before .removal3 .given .0 in
-    rw (c .before .before .before .before .before .before .before .before .before .removal3 .given .1) (one-made _ (c .before .before .before .before .before .before .before .before .before .before .before .before .before .args .map .now) _ _ (FreesBoth (d .1 .1 .0) (d .1 .1 .1 .0)) (c .before .before .before .before .before .before .store2 .ensures) (c .before .before .take-effect2 .ensures))
+returns-3 c =
+    let at-take-effect2 = c .before .before in
+    let at-store2 = at-take-effect2 .before .before .before .before in
+    let at-removal3 = at-store2 .before .before .before in
+    let start = at-removal3 .before .before .before .before in
+    let d = at-removal3 .removal3 .given .0 in
+    rw (at-removal3 .removal3 .given .1) (one-made _ (start .args .map .now) _ _ (FreesBoth (d .1 .1 .0) (d .1 .1 .1 .0)) (at-store2 .store2 .ensures) (at-take-effect2 .take-effect2 .ensures))
 
 same-length-5 : tie.Need-same-length-5
 same-length-5 c = search needs
@@ -70,8 +80,14 @@ same-length-6 : tie.Need-same-length-6
 same-length-6 c = search needs
 
 returns-4 : tie.Need-returns-4
-returns-4 c = let d = c .before .before .before .before .before .before .before .before .before .before .before .before .before .removal4 .given .0 in
-    rw (c .before .before .before .before .before .before .before .before .before .before .before .before .before .removal4 .given .1) (two-made _ (c .before .before .before .before .before .before .before .before .before .before .before .before .before .before .before .before .before .args .map .now) _ _ _ _ (FreesBoth (d .1 .1 .1 .1 .0) (d .1 .1 .1 .1 .1 .0)) (c .before .before .before .before .before .before .before .before .before .before .store3 .ensures) (c .before .before .before .before .before .before .store4 .ensures) (c .before .before .take-effect3 .ensures))
+returns-4 c =
+    let at-take-effect3 = c .before .before in
+    let at-store4 = at-take-effect3 .before .before .before .before in
+    let at-store3 = at-store4 .before .before .before .before in
+    let at-removal4 = at-store3 .before .before .before in
+    let start = at-removal4 .before .before .before .before in
+    let d = at-removal4 .removal4 .given .0 in
+    rw (at-removal4 .removal4 .given .1) (two-made _ (start .args .map .now) _ _ _ _ (FreesBoth (d .1 .1 .1 .1 .0) (d .1 .1 .1 .1 .1 .0)) (at-store3 .store3 .ensures) (at-store4 .store4 .ensures) (at-take-effect3 .take-effect3 .ensures))
 
 pub remove-spec : {M : Type 1} → statement M
 remove-spec =
