@@ -54,6 +54,7 @@ pub enum Ref {
 
 // What the reference r means in a pool of n leaves.
 pub fn reference(n: usize, r: u64) -> Ref
+    requires { ⌜ n ≤ 1024 ⌝ }
     ensures { λ s. ⌜ (s ≡ refOf n r) × Within n s ⌝ }
 {
     match r {
@@ -62,11 +63,11 @@ pub fn reference(n: usize, r: u64) -> Ref
             let i = (r - 1) as usize;
             if i < n { Ref::Leaf(i) } else { Ref::Bad }
         }
-        1025..=2047 => {
+        // 1025 to 2047: a number within the pool is within that.
+        _ => {
             let j = (r - 1025) as usize;
             if j + 1 < n { Ref::Node(j) } else { Ref::Bad }
         }
-        _ => Ref::Bad,
     }
 }
 
