@@ -20,20 +20,20 @@ use Rattle.plan.specs.Plans.{After, after, Decided, storeOf, storesOf, stepOf, 
 use Rattle.plan.specs.declared.Plan.{Plan}
 use Rattle.plan.specs.declared.Effect.{Effect}
 use Rattle.plan.specs.declared.Effect.the-variants.{Nothing, TakesLeaf, TakesBoth, FreesLeaf, FreesBoth}
-use Rattle.reading.specs.Lookups.{Answer, lookupOf}
+use Rattle.reading.specs.Lookups.{Answer}
 use Rattle.reading.specs.Listings.{Shown, listOf}
 use Rattle.reading.proofs.Answers.{Looks, lookup-answers, Lists, list-answers}
 use Rattle.reading.proofs.Answers as reading
 use Rattle.planning.specs.Puts.{putPlan}
 use Rattle.planning.specs.Deletes.{deletePlan}
-use Rattle.writing.specs.Calls.{Left, left, done, Formatted, formatted, mappedOf, putOf, deleteOf, formatOf}
+use Rattle.writing.specs.Calls.{Left, left, done, Formatted, mappedOf, formatOf}
 use Rattle.planning.proofs.Fits.{put-number, put-refusal, put-few, put-inside, delete-number, delete-refusal, delete-few, delete-inside}
 use Rattle.writing.proofs.Wholes.{put-whole-number, put-refused, put-lengths, deleteMapped, delete-whole-number, delete-refused, delete-lengths, Formats, format-formats}
 use Rattle.survey.specs.Surveys.{surveyOf}
 use Rattle.opening.specs.Openings.{mendFirst, openIn, openPlan, openOf}
 use Rattle.opening.specs.Openings as opening
 use Rattle.opening.proofs.Answers.{plan-modest, open-number, open-size, open-damage}
-use Rattle.demands.specs.Demand1.{OneOf, Inside, Plans, Whole, Demand1}
+use Rattle.demands.specs.Demand1.{OneOf, Inside, Whole, Demand1}
 
 -- ---- numbers of a list
 one-of : (l : List ℕ) (x : ℕ) → run.OneOf l x → OneOf l x

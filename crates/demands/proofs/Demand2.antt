@@ -1,26 +1,24 @@
 -- Demand 2 holds.
 -- Assumes nothing.
-use mathlib.Core.Path.{_≡_, refl, sym, ap, _∙_, subst}
+use mathlib.Core.Path.{_≡_, sym, ap, _∙_}
 use mathlib.Core.Option.{Option, none, some}
 use mathlib.Core.List.{List}
-use Prim.Native.Nat.{ℕ, _≤_, _<_}
+use Prim.Native.Nat.{ℕ}
 use native.Mathlib.Omega.{arith}
 use lib.ListN.{length}
-use Rattle.tree.specs.Tree.{leaves, find}
 use Rattle.plan.specs.Plans.{made, Decided}
-use Rattle.held.specs.Ways.{dig}
-use Rattle.reading.specs.Rows.{Word, Words}
+use Rattle.reading.specs.Rows.{Word}
 use Rattle.planning.specs.Puts.{putPlan}
 use Rattle.planning.specs.Deletes.{deletePlan}
-use Rattle.writing.specs.Calls.{Left, putOf, deleteOf}
+use Rattle.writing.specs.Calls.{Left}
 use Rattle.planning.proofs.HeldPuts.{PutIs, full, does}
 use Rattle.planning.proofs.HeldDeletes.{DeleteIs, absent, does as deletes}
-use Rattle.demands.specs.Tables.{Table, given, without}
+use Rattle.demands.specs.Tables.{Table}
 use Rattle.demands.specs.Demand2.{Reading, Done, Refused, Full, Demand2, Demand2Holds}
 use Rattle.demands.specs.Demand3.{Op, put, delete, planned, whole, effect}
 use Rattle.demands.proofs.States.{State}
 use Rattle.demands.proofs.Readings.{state-reading, rows-leaves, reads-state, sound-reads}
-use Rattle.demands.proofs.Operations.{put-is-here, delete-is-here, whole-done, whole-refused, whole-number, done-state}
+use Rattle.demands.proofs.Operations.{put-is-here, delete-is-here, whole-done, whole-refused, done-state}
 
 module _ (pool map : List ℕ) (T : Table) (r : Reading pool map T) where
   S : State (r .sound .n) pool (some map) T

@@ -1,12 +1,11 @@
 -- Demand 3 holds, for stores that reach memory in order and for any cut that keeps the store that counts in its place.
 -- Assumes nothing.
-use mathlib.Core.Path.{_≡_, refl, sym, ap, _∙_, subst}
+use mathlib.Core.Path.{_≡_, refl, ap, _∙_, subst}
 use mathlib.Core.Bool.{Bool}
 use mathlib.Core.Option.{Option, none, some}
-use mathlib.Core.List.{List, [], _∷_, _++_}
-use Prim.Native.Nat.{ℕ, _+_, _-_, _*_, _≤_, _<_}
+use mathlib.Core.List.{List, _∷_}
+use Prim.Native.Nat.{ℕ, _-_, _<_}
 use native.Mathlib.Omega.{arith}
-use borrow.Author.Tests.{eq-eqb, ne-eqb}
 use lib.ListN.{length, set, replicate, length-set, length-append, length-replicate, getD-replicate}
 use lib.Seq.{getD-set-same, getD-set-other}
 use Rattle.pool.specs.Sizes.{sizeOf, bytesOf, Sized, Measured}
@@ -17,15 +16,14 @@ use Rattle.tree.specs.Tree.{empty, mult, find}
 use Rattle.tree.specs.Stores.{Store}
 use Rattle.tree.proofs.Basics.{Same?, same, other, same?}
 use Rattle.layout.proofs.Held.{held-empty}
-use Rattle.plan.specs.Plans.{Decided}
-use Rattle.held.specs.Ways.{dig, mem}
+use Rattle.held.specs.Ways.{mem}
 use Rattle.held.specs.Maps.{Marked}
 use Rattle.writing.specs.Calls.{formatOf, formatIn}
 use Rattle.writing.proofs.Wholes.{size-same}
 use Rattle.opening.specs.Openings.{Left, openOf, openSteps}
 use Rattle.opening.proofs.HeldOpens.{steps-pool, open-is, all-mended, reached-marked}
 use Rattle.demands.specs.Tables.{Table, blank}
-use Rattle.demands.specs.Demand3.{Op, Cut, planned, InOrder, Loosely, Reach, fresh, done, refused, cut, lost, reopening, opened, Promised, Demand3}
+use Rattle.demands.specs.Demand3.{Op, Cut, planned, InOrder, Loosely, Reach, fresh, done, refused, cut, lost, reopening, opened, Demand3}
 use Rattle.demands.proofs.States.{State}
 use Rattle.demands.proofs.Readings.{state-reads, state-reading, state-capacity}
 use Rattle.demands.proofs.Operations.{turns, done-state, refused-state, cut-state, in-order-loosely}

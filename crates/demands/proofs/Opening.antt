@@ -1,10 +1,9 @@
 -- An opening answers 0 just on sound pools, and leaves a straight one with the same table, an exact map, and nothing to store.
 -- Rests on what a survey sees, and on openings of a pool that holds a tree. Assumes nothing.
-use mathlib.Core.Path.{_≡_, refl, sym, ap, _∙_, subst}
-use mathlib.Core.Bool.{true}
+use mathlib.Core.Path.{_≡_, sym, ap, _∙_, subst}
 use mathlib.Core.Option.{Option}
-use mathlib.Core.List.{List, [], map}
-use Prim.Native.Nat.{ℕ, _+_, _-_, _≤_, _<_}
+use mathlib.Core.List.{List, map}
+use Prim.Native.Nat.{ℕ, _+_, _-_, _≤_}
 use native.Mathlib.Omega.{arith}
 use lib.ListN.{length}
 use Rattle.pool.specs.Sizes.{capacityOf, bytesOf}
@@ -12,20 +11,16 @@ use Rattle.pool.specs.Places.{headerAt}
 use Rattle.pool.specs.declared.Size.the-variants.{Holds}
 use Rattle.digits.specs.Headers.{depthOf}
 use Rattle.tree.specs.Tree.{Tree, node, dep, find, Stands}
-use Rattle.tree.specs.Listing.{entries}
-use Rattle.layout.specs.Layout.{Held}
 use Rattle.layout.proofs.Held.{node-slot}
 use Rattle.held.specs.Ways.{dig, mem}
-use Rattle.held.specs.Maps.{Marked}
 use Rattle.reading.specs.Lookups.{lookupOf}
-use Rattle.reading.specs.Listings.{listOf}
-use Rattle.reading.specs.Rows.{Finds, shownRows, upFrom}
+use Rattle.reading.specs.Rows.{Finds}
 use Rattle.reading.proofs.HeldLookup.{lookup-held}
 use Rattle.reading.proofs.HeldListing.{list-held}
 use Rattle.survey.specs.Soundness.{Sound, Straight}
 use Rattle.survey.proofs.SoundTree.{sound-held}
 use Rattle.survey.proofs.SoundHeld.{held-is-sound, sound-capacity, straight-if, sound-holds}
-use Rattle.opening.specs.Openings.{Left, reached, openPlan, openOf}
+use Rattle.opening.specs.Openings.{Left, reached}
 use Rattle.opening.proofs.Answers.{Leaves, size, damage, done, open-leaves}
 use Rattle.opening.proofs.HeldMends.{M}
 use Rattle.opening.proofs.HeldOpens.{Pool, capacity-is, end, all-mended, none-left, reached-marked, open-is}

@@ -1,19 +1,17 @@
 -- What a put or a delete does to a state, done, refused or cut.
 -- Assumes nothing.
 use mathlib.Core.Path.{_≡_, refl, sym, ap, _∙_, subst}
-use mathlib.Core.Bool.{Bool, true, false}
-use mathlib.Core.Logic.{_≢_, _⊎_, inl, inr}
-use mathlib.Core.Option.{Option, none, some}
+use mathlib.Core.Bool.{Bool}
+use mathlib.Core.Option.{none, some}
 use mathlib.Core.List.{List, [], _∷_, _++_}
-use Prim.Native.Nat.{ℕ, zero, suc, _+_, _-_, _≤_, _<_}
+use Prim.Native.Nat.{ℕ, zero, suc, _+_, _-_, _<_}
 use native.Mathlib.Omega.{arith}
 use borrow.Author.Tests.{eq-eqb, ne-eqb}
 use lib.Dec.{eqb}
 use lib.ListN.{length, take, length-append}
 use lib.Seq.{take-append-le, take-all, take-take}
 use Rattle.digits.specs.Choice.{pick}
-use Rattle.pool.specs.Sizes.{capacityOf, bytesOf}
-use Rattle.pool.specs.declared.Size.the-variants.{Holds}
+use Rattle.pool.specs.Sizes.{bytesOf}
 use Rattle.tree.specs.Tree.{Tree, mult, find}
 use Rattle.tree.specs.Changes.{occurs, Adds, Removes}
 use Rattle.tree.specs.Stores.{Store, run, Part, done, made as kept, lost}
@@ -21,7 +19,7 @@ use Rattle.tree.proofs.Basics.{Same?, same, other, same?}
 use Rattle.tree.proofs.Stores.{Words, words-part, part-all, part-none, part-take}
 use Rattle.layout.specs.Layout.{Held}
 use Rattle.layout.specs.Switches.{Switches}
-use Rattle.plan.specs.Plans.{made, finishOf, Decided, decided, refused as refusal}
+use Rattle.plan.specs.Plans.{made, finishOf, Decided, decided}
 use Rattle.plan.specs.Effects.{takes, frees, Inside}
 use Rattle.plan.specs.declared.Effect.{Effect}
 use Rattle.held.specs.Ways.{dig, mem}
@@ -34,7 +32,7 @@ use Rattle.planning.proofs.Fits.{put-inside, put-named, delete-inside, delete-n
 use Rattle.planning.proofs.HeldPuts.{PutIs, full, does, put-is}
 use Rattle.planning.proofs.HeldDeletes.{DeleteIs, absent, does as deletes, delete-is}
 use Rattle.demands.specs.Tables.{Table, given, without, Names}
-use Rattle.demands.specs.Demand3.{Op, put, delete, planned, whole, effect, Loosely, put-before, put-whole, delete-before, delete-since, InOrder, first, counts}
+use Rattle.demands.specs.Demand3.{Op, put, delete, planned, whole, effect, Loosely, put-before, put-whole, delete-before, delete-since, InOrder, first}
 use Rattle.demands.proofs.States.{State, fits, tree-names, stored, finish-marks}
 
 -- ---- parts

@@ -4,12 +4,11 @@ use mathlib.Core.Path.{_≡_, refl, sym, ap, _∙_, subst}
 use mathlib.Core.Logic.{_⊎_, inl, inr}
 use mathlib.Core.Option.{Option, none, some}
 use mathlib.Core.List.{List}
-use Prim.Native.Nat.{ℕ, _+_, _*_, _≤_, _<_}
+use Prim.Native.Nat.{ℕ, _≤_, _<_}
 use native.Mathlib.Omega.{arith}
 use lib.ListN.{length, getD}
-use Rattle.pool.specs.Sizes.{sizeOf, capacityOf, bytesOf, Sized, Measured}
+use Rattle.pool.specs.Sizes.{capacityOf, bytesOf, Sized, Measured}
 use Rattle.pool.specs.Places.{wordAt}
-use Rattle.pool.specs.declared.Size.{Size}
 use Rattle.pool.specs.declared.Size.the-variants.{Holds}
 use Rattle.pool.proofs.Sizes.{size-fits}
 use Rattle.tree.specs.Tree.{Tree, mult, find, leaves}
@@ -20,7 +19,7 @@ use Rattle.layout.specs.Layout.{Held}
 use Rattle.held.specs.Ways.{dig, mem}
 use Rattle.held.specs.Maps.{Marked}
 use Rattle.reading.specs.Lookups.{Answer, lookupOf}
-use Rattle.reading.specs.Rows.{Word, Words, Finds}
+use Rattle.reading.specs.Rows.{Words, Finds}
 use Rattle.reading.proofs.HeldLookup.{lookup-held}
 use Rattle.reading.proofs.HeldListing.{list-held, rows-held, names-held}
 use Rattle.writing.proofs.Wholes.{size-same}
@@ -28,7 +27,7 @@ use Rattle.survey.specs.Soundness.{Sound}
 use Rattle.survey.proofs.HeldReached.{in-use, reached-in-use}
 use Rattle.survey.proofs.SoundHeld.{sound-capacity, held-is-sound, sound-holds}
 use Rattle.opening.proofs.HeldOpens.{Pool}
-use Rattle.demands.specs.Tables.{Table, Rows, Names, Reads, Exact}
+use Rattle.demands.specs.Tables.{Table, Names, Reads, Exact}
 use Rattle.demands.specs.Demand2.{Reading}
 use Rattle.demands.proofs.States.{State, fits, tree-names}
 

@@ -1,22 +1,21 @@
 -- The states of demands 2 and 3: a pool of n leaves that holds a tree, the table that the tree is, and its map, where there is one. Stores that leave
 -- a tree, and an effect on the map, lead from state to state.
 -- Assumes nothing.
-use mathlib.Core.Path.{_≡_, refl, sym, ap, _∙_, subst}
-use mathlib.Core.Bool.{Bool, true, false}
+use mathlib.Core.Path.{_≡_, refl, sym, _∙_}
+use mathlib.Core.Bool.{true, false}
 use mathlib.Core.Logic.{_≢_, _⊎_, inl, inr}
-use mathlib.Core.Option.{Option, none, some}
+use mathlib.Core.Option.{Option, some}
 use mathlib.Core.List.{List, [], _∷_}
 use Prim.Native.Nat.{ℕ, _+_, _≤_, _<_}
 use native.Mathlib.Omega.{arith}
-use lib.ListN.{length, take}
-use Rattle.digits.specs.Choice.{pick}
+use lib.ListN.{length}
 use Rattle.pool.specs.Sizes.{capacityOf, bytesOf}
 use Rattle.pool.specs.Places.{wordAt}
 use Rattle.pool.specs.declared.Size.the-variants.{Holds}
 use Rattle.tree.specs.Tree.{Tree, mult, find}
 use Rattle.tree.specs.Changes.{occurs}
 use Rattle.tree.specs.Stores.{Store, run}
-use Rattle.tree.proofs.Basics.{Same?, same, other, same?, true-not-false}
+use Rattle.tree.proofs.Basics.{Same?, same, other, same?}
 use Rattle.tree.proofs.Stores.{Words, words-more}
 use Rattle.layout.specs.Layout.{Held}
 use Rattle.layout.proofs.Changes.{kept}

@@ -7,7 +7,6 @@ use lib.Dec.{eqb}
 use lib.ListN.{replicate}
 use Rattle.digits.specs.Choice.{pick}
 use Rattle.digits.specs.Digits.{digitOf, firstDiff}
-use Rattle.plan.specs.Plans.{made}
 use Rattle.pool.specs.Sizes.{sizeOf}
 use Rattle.pool.specs.Places.{wordAt}
 use Rattle.pool.specs.Refs.{refOf}

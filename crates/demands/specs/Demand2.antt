@@ -3,11 +3,10 @@
 -- places are held."
 -- Assumes nothing.
 use mathlib.Core.Path.{_≡_}
-use mathlib.Core.Option.{Option, none, some}
+use mathlib.Core.Option.{none, some}
 use mathlib.Core.List.{List}
 use Prim.Native.Nat.{ℕ}
 use lib.ListN.{length}
-use Rattle.tree.specs.Listing.{Entry}
 use Rattle.plan.specs.Plans.{made}
 use Rattle.planning.specs.Puts.{putPlan}
 use Rattle.planning.specs.Deletes.{deletePlan}

@@ -1,7 +1,7 @@
 // Opening: the planning call, which answers the first store, and the whole call, which makes them all.
 ghost use mathlib.Core.Path.{_≡_};
 ghost use mathlib.Core.List.{[], _∷_, map as mapped};
-ghost use Prim.Native.Nat.{ℕ, _+_, _-_, _*_, _<_, _≤_};
+ghost use Prim.Native.Nat.{ℕ, _+_, _-_, _<_, _≤_};
 ghost use lib.ListN.{length, getD, replicate};
 ghost use Rattle.pool.specs.Sizes.{Sized, bytesOf};
 ghost use Rattle.plan.specs.Plans.{planOf, plannedOf};

@@ -1,8 +1,7 @@
 // Planning a delete.
 ghost use mathlib.Core.Path.{_≡_};
 ghost use mathlib.Core.List.{[], _∷_};
-ghost use Prim.Native.Nat.{ℕ, _+_, _-_, _*_, _<_, _≤_};
-ghost use lib.ListN.{length};
+ghost use Prim.Native.Nat.{_+_, _<_, _≤_};
 ghost use Rattle.pool.specs.Sizes.{Sized, capacityOf};
 ghost use Rattle.layout.specs.Operations.{store};
 ghost use Rattle.plan.specs.Plans.{plannedOf, decided};

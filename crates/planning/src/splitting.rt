@@ -1,7 +1,7 @@
 // The plans that take slots: a new leaf at an empty reference, and the split of a reference.
 ghost use mathlib.Core.Path.{_≡_};
-ghost use mathlib.Core.List.{[], _∷_, _++_};
-ghost use Prim.Native.Nat.{ℕ, _+_, _-_, _*_, _<_, _≤_};
+ghost use mathlib.Core.List.{_∷_};
+ghost use Prim.Native.Nat.{_+_, _-_, _<_, _≤_};
 ghost use lib.ListN.{length};
 ghost use Rattle.digits.specs.Headers.{headerOf};
 ghost use Rattle.tree.specs.Stores.{tab};

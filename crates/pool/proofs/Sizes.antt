@@ -1,17 +1,16 @@
 -- Laws of sizes: a run that has a capacity fits it, and a run of no words has none.
 -- Assumes nothing.
-use mathlib.Core.Path.{_≡_, refl, ap}
+use mathlib.Core.Path.{_≡_, refl}
 use mathlib.Core.Bool.{Bool, true, false}
 use mathlib.Core.List.{List}
-use Prim.Native.Nat.{ℕ, _+_, _-_, _*_, _≤_, _<_}
+use Prim.Native.Nat.{ℕ, _-_, _*_, _≤_}
 use native.Mathlib.Omega.{arith}
 use borrow.Author.Tests.{ltb-false, eqb-true, lt-ltb}
 use lib.Dec.{eqb, ltb}
 use lib.ListN.{length, getD, List·getD-eq-default}
 use Rattle.digits.specs.Choice.{pick}
-use Rattle.pool.specs.declared.Size.{Size}
 use Rattle.pool.specs.declared.Size.the-variants.{Holds, Wrong}
-use Rattle.pool.specs.Sizes.{sizeOf, capacityOf, Sized, Measured}
+use Rattle.pool.specs.Sizes.{sizeOf, capacityOf, Measured}
 
 -- what a size says is true of the run
 pub size-fits : (pool : List ℕ) (n : ℕ) → Measured pool (sizeOf (length pool) n)

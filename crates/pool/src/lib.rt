@@ -1,9 +1,8 @@
 // A pool's sizes, references and places. All later code takes them from these functions.
 ghost use mathlib.Core.Path.{_≡_};
-ghost use Prim.Native.Nat.{ℕ, _+_, _-_, _*_, _<_, _≤_};
-ghost use lib.ListN.{length};
-ghost use Rattle.pool.specs.Sizes.{sizeOf, capacityOf, bytesOf, Sized, Measured};
-ghost use Rattle.pool.specs.Places.{leafWord, nodeWord, childWord, wordAt, keyAt, valueAt, headerAt, childAt, leafRef, nodeRef};
+ghost use Prim.Native.Nat.{_+_, _<_, _≤_};
+ghost use Rattle.pool.specs.Sizes.{sizeOf, capacityOf, Sized, Measured};
+ghost use Rattle.pool.specs.Places.{leafWord, nodeWord, keyAt, valueAt, headerAt, childAt, leafRef, nodeRef};
 ghost use Rattle.pool.specs.Refs.{refOf, Within};
 use digits::Header;
 

@@ -20,10 +20,10 @@ use Rattle.pool.specs.Places.{wordAt, leafWord, childAt}
 use Rattle.pool.specs.Refs.{refOf}
 use Rattle.pool.specs.declared.Size.the-variants.{Holds}
 use Rattle.pool.specs.declared.Ref.{Ref}
-use Rattle.tree.specs.Tree.{Tree, empty, leaf, node, upd, sub, Stands, On, here, find, Good}
+use Rattle.tree.specs.Tree.{Tree, empty, leaf, node, upd, sub, Stands, here, find, Good}
 use Rattle.tree.specs.Listing.{Entry, Rising, look, cat, entries}
 use Rattle.tree.specs.Shape
-use Rattle.tree.proofs.Basics.{Same?, same, other, same?, less?, sum-same}
+use Rattle.tree.proofs.Basics.{Same?, same, other, same?, less?}
 use Rattle.tree.proofs.Places.{child}
 use Rattle.tree.proofs.Near.{of-two, stands-found}
 use Rattle.tree.proofs.Listing.{Keys, entries-rise, entries-find, entries-length}

@@ -1,7 +1,7 @@
 // Listing: a visit of a reference, and of a node's sixteen references, lowest first.
 ghost use mathlib.Core.Path.{_≡_};
 ghost use mathlib.Core.Bool.{false};
-ghost use Prim.Native.Nat.{ℕ, _+_, _-_, _<_, _≤_};
+ghost use Prim.Native.Nat.{_+_, _-_, _<_, _≤_};
 ghost use lib.ListN.{length, replicate};
 ghost use Rattle.digits.specs.Loops.{scan};
 ghost use Rattle.pool.specs.Sizes.{Sized};

@@ -1,11 +1,10 @@
 -- What each call of include/wort.h gives back through its pointers.
 -- Assumes nothing.
-use mathlib.Core.Bool.{Bool, true, false}
 use mathlib.Core.List.{List}
 use Prim.Native.Nat.{ℕ}
 use Rattle.digits.specs.Choice.{pick}
 use Rattle.plan.specs.Plans.{Decided, plannedOf}
-use Rattle.reading.specs.Listings.{Shown, listOf}
+use Rattle.reading.specs.Listings.{Shown}
 use Rattle.opening.specs.Openings.{openOf}
 use Rattle.wort.specs.Plans.{wordsOf}
 use Rattle.writing.specs.Calls.{Left}

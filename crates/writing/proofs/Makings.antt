@@ -3,7 +3,7 @@
 use mathlib.Core.Path.{_≡_, refl, sym, ap, _∙_}
 use mathlib.Core.Logic.{_⊎_, inl, inr}
 use mathlib.Core.List.{List, [], _∷_, _++_}
-use Prim.Native.Nat.{ℕ, zero, suc, _+_, _-_, _≤_, _<_}
+use Prim.Native.Nat.{ℕ, suc, _+_, _-_, _≤_, _<_}
 use native.Mathlib.Numerals.{add-one}
 use native.Mathlib.Omega.{arith}
 use borrow.Author.Tests.{lt-ltb, le-ltb}
@@ -15,7 +15,7 @@ use Rattle.tree.proofs.Stores.{length-tab}
 use Rattle.pool.specs.Places.{leafWord, nodeWord, leafRef, nodeRef}
 use Rattle.digits.specs.Headers.{headerOf}
 use Rattle.layout.specs.Operations.{store, putStores}
-use Rattle.plan.specs.Plans.{Decided, decided, refused, made, After, after, storeOf, finishOf}
+use Rattle.plan.specs.Plans.{decided, refused, made, After, after, storeOf, finishOf}
 use Rattle.plan.specs.declared.Effect.{Effect}
 use Rattle.plan.specs.declared.Effect.the-variants.{TakesLeaf, TakesBoth}
 use Rattle.plan.proofs.Laws.{made-append}

@@ -1,32 +1,28 @@
 -- Whole calls: plan, all stores in order, finish; a refusal leaves everything as it was; each promise has one outcome.
 -- Assumes nothing.
 use mathlib.Core.Path.{_≡_, refl, sym, ap, _∙_}
-use mathlib.Core.Logic.{_⊎_, inl, inr}
+use mathlib.Core.Logic.{inl, inr}
 use mathlib.Core.Bool.{Bool, true, false}
 use mathlib.Core.List.{List, [], _∷_}
-use Prim.Native.Nat.{ℕ, _-_, _*_, _≤_, _<_}
+use Prim.Native.Nat.{ℕ, _-_, _*_}
 use native.Mathlib.Omega.{arith}
-use borrow.Author.Tests.{lt-ltb, le-ltb, eq-eqb, ne-eqb}
+use borrow.Author.Tests.{eq-eqb, ne-eqb}
 use types.Run.{OneOf}
 use lib.Dec.{eqb, ltb}
 use lib.ListN.{length, set, replicate, length-set, length-replicate}
 use Rattle.digits.specs.Choice.{pick}
-use lib.Seq.{set-out}
-use Rattle.tree.proofs.Basics.{Same?, same, other, same?, less?}
-use Rattle.tree.proofs.Stores.{Words}
+use Rattle.tree.proofs.Basics.{Same?, same, other, same?}
 use Rattle.pool.specs.Sizes.{sizeOf, capacityOf, bytesOf, Sized}
 use Rattle.pool.specs.declared.Size.{Size}
 use Rattle.pool.specs.declared.Size.the-variants.{Holds, Wrong}
 use Rattle.pool.proofs.Sizes.{size-fits}
-use Rattle.plan.specs.Plans.{Decided, decided, refused, plannedOf, made, After, after, storeOf, finishOf, ran, runOf}
-use Rattle.plan.specs.declared.Effect.{Effect}
+use Rattle.plan.specs.Plans.{Decided, plannedOf}
 use Rattle.plan.specs.declared.Planned.{Planned}
 use Rattle.plan.proofs.Laws.{length-made, length-finish}
 use Rattle.writing.specs.declared.making.Done.{Done}
 use Rattle.planning.specs.Puts.{putPlan}
 use Rattle.planning.specs.Deletes.{deletePlan}
 use Rattle.writing.specs.Calls.{Left, done, left, wholeOf, putOf, mappedOf, deleteOf, Formatted, formatted, formatIn, formatOf}
-use Rattle.planning.proofs.Fits.{put-inside, put-few, delete-inside, delete-few}
 
 -- ---- what a whole call leaves
 module _ (d : Decided) (pool map : List ℕ) where

@@ -1,6 +1,5 @@
 // The whole calls: find what the call comes to, make its stores in their order, finish.
 ghost use mathlib.Core.Path.{_≡_};
-ghost use Prim.Native.Nat.{ℕ, _+_, _-_, _*_, _<_, _≤_};
 ghost use Rattle.writing.specs.Calls.{left, putOf, deleteOf, formatted, formatOf};
 use crate::making::Done;
 use crate::making::put_at;

@@ -1,12 +1,12 @@
 // The stores of the whole calls, made one by one with no plan laid out, in the order of the definitions' lists.
 ghost use mathlib.Core.Path.{_≡_};
 ghost use mathlib.Core.List.{[], _∷_};
-ghost use Prim.Native.Nat.{ℕ, _+_, _-_, _<_, _≤_};
+ghost use Prim.Native.Nat.{_-_, _<_, _≤_};
 ghost use lib.ListN.{length};
 ghost use Rattle.digits.specs.Headers.{headerOf};
 ghost use Rattle.tree.specs.Stores.{block, tab};
 ghost use Rattle.pool.specs.Sizes.{bytesOf};
-ghost use Rattle.pool.specs.Places.{leafWord, nodeWord};
+ghost use Rattle.pool.specs.Places.{leafWord};
 ghost use Rattle.plan.specs.Plans.{made};
 ghost use Rattle.planning.specs.Puts.{splitChild, targetHeader, Splits, growOf, splitOf};
 ghost use Rattle.planning.specs.Leads.{planAt, Able};
