@@ -1,7 +1,8 @@
 // Plans: at most 21 stores in order, each made by one step, and what they do to the map.
 ghost use mathlib.Core.Path.{_≡_};
 ghost use mathlib.Core.List.{[]};
-ghost use lib.ListN.{length, replicate};
+ghost use Prim.Native.Nat.{_<_};
+ghost use lib.ListN.{length, set, replicate};
 ghost use Rattle.plan.specs.Effects.{bare};
 ghost use Rattle.plan.specs.Plans.{planOf, refused, plannedOf, after, storeOf, storesOf, stepOf, finishOf, ran, runOf};
 
@@ -57,14 +58,22 @@ impl Planned {
     }
 }
 
-// The single store.
+// The one store, to a word of the pool.
+pub fn set_word(pool: &mut [u64], word: usize, value: u64)
+    requires { ⌜ word < length (now pool) ⌝ }
+    ensures { λ _. ⌜ now (pool .exit) ≡ set (now (pool .entry)) word value ⌝ }
+{
+    pool[word] = value;
+}
+
+// The single store, to any word: 5 where the pool has none such.
 pub fn store(pool: &mut [u64], word: usize, value: u64) -> u64
     ensures { λ r. ⌜ after r (now (pool .exit)) ≡ storeOf word value (now (pool .entry)) ⌝ }
 {
     if pool.len() <= word {
         return 5;
     }
-    pool[word] = value;
+    set_word(pool, word, value);
     0
 }
 

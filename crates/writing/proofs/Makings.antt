@@ -70,16 +70,16 @@ block-last w (y ∷ l) x pool =
     let e : w + 1 + length l ≡ w + suc (length l) = omega arith in
     block-last (w + 1) l x (set pool w y) ∙ ap (λ (i : ℕ). set (made (block (w + 1) l) (set pool w y)) i x) e
 
-pub children-on : (pool : List ℕ) (w : ℕ) (f : ℕ → ℕ) (c : ℕ) {x a : ℕ} {p q : List ℕ} → p ≡ made (block w (tab c f)) pool → x ≡ f c → after a q ≡ storeOf (w + c) x p
+pub children-on : (pool : List ℕ) (w : ℕ) (f : ℕ → ℕ) (c : ℕ) {x : ℕ} {p q : List ℕ} → p ≡ made (block w (tab c f)) pool → x ≡ f c → q ≡ set p (w + c) x
     → q ≡ made (block w (tab (c + 1) f)) pool
-children-on pool w f c {x = x} {p = p} e g s =
+children-on pool w f c e g s =
     let n : w + length (tab c f) ≡ w + c = omega (arith, length-tab c f) in
     let t : tab (c + 1) f ≡ tab c f ++ f c ∷ [] = rw add-one (tab-last c f) in
-    stored p (w + c) x s ∙ rw (e, g, t, block-last w (tab c f) (f c) pool, n)
+    s ∙ rw (e, g, t, block-last w (tab c f) (f c) pool, n)
 
-pub node-made : (pool : List ℕ) (w h : ℕ) (l : List ℕ) {a : ℕ} {p q : List ℕ} → after a p ≡ storeOf w h pool → q ≡ made (block (w + 1) l) p → q ≡ made (block w (h ∷ l)) pool
+pub node-made : (pool : List ℕ) (w h : ℕ) (l : List ℕ) {p q : List ℕ} → p ≡ set pool w h → q ≡ made (block (w + 1) l) p → q ≡ made (block w (h ∷ l)) pool
 unfolding made block
-node-made pool w h l s e = rw (e, stored pool w h s)
+node-made pool w h l s e = rw (e, s)
 
 -- ---- a new leaf at an empty reference
 module _ (pool map : List ℕ) (n k v at : ℕ) {leaf : ℕ} (free : leaf ≡ freeLeaf map n) where

@@ -1,11 +1,11 @@
 // The stores of the whole calls, made one by one with no plan laid out, in the order of the definitions' lists.
 ghost use mathlib.Core.Path.{_≡_};
 ghost use mathlib.Core.List.{[], _∷_};
-ghost use Prim.Native.Nat.{_-_, _<_, _≤_};
+ghost use Prim.Native.Nat.{_+_, _-_, _<_, _≤_};
 ghost use lib.ListN.{length};
 ghost use Rattle.digits.specs.Headers.{headerOf};
 ghost use Rattle.tree.specs.Stores.{block, tab};
-ghost use Rattle.pool.specs.Sizes.{bytesOf};
+ghost use Rattle.pool.specs.Sizes.{bytesOf, Sized};
 ghost use Rattle.pool.specs.Places.{leafWord};
 ghost use Rattle.plan.specs.Plans.{made};
 ghost use Rattle.planning.specs.Puts.{splitChild, targetHeader, Splits, growOf, splitOf};
@@ -68,13 +68,13 @@ fn make_grow(pool: &mut [u64], map: &mut [u8], n: usize, key: u64, value: u64, a
 
 // The seventeen words of a split's new node, which begins at a word.
 fn make_node(pool: &mut [u64], word: usize, s: Cleft, leaf: usize, key: u64)
-    requires { ⌜ (word < 32768) × (leaf < 1024) × (s .depth ≤ s .diff) × (s .diff < 16) ⌝ }
+    requires { ⌜ (word < 32768) × (leaf < 1024) × (s .depth ≤ s .diff) × (s .diff < 16) × (word + 17 ≤ length (now pool)) ⌝ }
     ensures { λ _. ⌜ now (pool .exit) ≡ made (block word (headerOf (s .depth) (s .diff - s .depth) key ∷ tab 16 (splitChild s leaf key))) (now (pool .entry)) ⌝ }
 {
-    plan::store(pool, word, Header::pack(s.depth, s.diff - s.depth, key));
+    plan::set_word(pool, word, Header::pack(s.depth, s.diff - s.depth, key));
     let mut c: usize = 0;
     while c < Header::CHILDREN {
-        plan::store(pool, word + 1 + c, split_child(s, leaf, key, c));
+        plan::set_word(pool, word + 1 + c, split_child(s, leaf, key, c));
         c += 1;
     }
 }
@@ -102,7 +102,7 @@ fn make_split(
     value: u64,
     target: Target,
 ) -> Done
-    requires { ⌜ (n ≤ 1024) × (length (now map) ≡ bytesOf n) × (1 ≤ n) × (s .depth ≤ s .diff) × (s .diff < 16) × Splits n s target ⌝ }
+    requires { ⌜ (n ≤ 1024) × (length (now map) ≡ bytesOf n) × (1 ≤ n) × (s .depth ≤ s .diff) × (s .diff < 16) × Splits n s target × Sized (now pool) n ⌝ }
     ensures { λ r. ⌜ left r (now (pool .exit)) (now (map .exit)) ≡ wholeOf (splitOf (now (map .entry)) n s key value target) (now (pool .entry)) (now (map .entry)) ⌝ }
 {
     let Room::Slots(leaf, byte) = find_room(map, n) else {
@@ -129,7 +129,7 @@ pub fn put_at(
     value: u64,
     place: Place,
 ) -> Done
-    requires { ⌜ (1 ≤ n) × (n ≤ 1024) × (length (now map) ≡ bytesOf n) × Able n place ⌝ }
+    requires { ⌜ (1 ≤ n) × (n ≤ 1024) × (length (now map) ≡ bytesOf n) × Able n place × Sized (now pool) n ⌝ }
     ensures { λ r. ⌜ left r (now (pool .exit)) (now (map .exit)) ≡ wholeOf (planAt (now (map .entry)) n key value place) (now (pool .entry)) (now (map .entry)) ⌝ }
 {
     match place {

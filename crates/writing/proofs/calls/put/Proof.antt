@@ -56,7 +56,7 @@ put-at-requires c κs =
     let at-n = at-if1 .before .before in
     let at-capacity = at-n .before .before in
     let z = rw (at-n .n .given .1) at (at-capacity .capacity .ensures .1) in
-    (z .some, z .most, at-if1 .if1 .left, at-find-place .find-place .ensures .able)
+    (z .some, z .most, at-if1 .if1 .left, at-find-place .find-place .ensures .able, z)
 
 same-length-3 : tie.Need-same-length-3
 same-length-3 c = search needs

@@ -55,7 +55,8 @@ make-node-requires : tie.Need-make-node-requires
 make-node-requires c κs =
     let start = c .before .before .before .before .before .before .before .before .before .before .before .before .before in
     let h = slots (c .before .before .before .before .before .before) in
-    (omega (arith, c .node-word .ensures), omega arith, start .pre .3, start .pre .4)
+    let z = start .pre .6 in
+    (omega (arith, c .node-word .ensures), omega arith, start .pre .3, start .pre .4, omega (arith, c .node-word .ensures))
 
 make-target-requires : tie.Need-make-target-requires
 make-target-requires c κs = search needs

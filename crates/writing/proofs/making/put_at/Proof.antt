@@ -33,7 +33,7 @@ make-split-requires c κs =
     let at-place3 = c .before .before .before in
     let start = at-place3 .before .before .before .before in
     let h = rw (at-place3 .place3 .given .1) at (start .pre .3) in
-    (start .pre .1, start .pre .2, start .pre .0, h .0, h .1, h .2)
+    (start .pre .1, start .pre .2, start .pre .0, h .0, h .1, h .2, start .pre .4)
 
 enum-known-place-4 : tie.Need-enum-known-place-4
 enum-known-place-4 c = search needs
