@@ -1,5 +1,5 @@
 /* Formats a pool of 16 places, puts three names, looks one up, lists all.
- * gcc -Iinclude examples/hello.c target/staticlib/libwort.a && ./a.out */
+ * rt staticlib wort && gcc -Iinclude examples/hello.c target/staticlib/libwort.a -o target/hello && target/hello */
 #include "wort.h"
 #include <stdio.h>
 
@@ -7,7 +7,7 @@
 
 int main(void)
 {
-    static uint64_t pool[WORT_WORDS(N)]; /* would stand in persistent memory */
+    static uint64_t pool[WORT_WORDS(N)]; /* in persistent memory a put is planned and stepped: see below */
     static uint8_t map[WORT_BYTES(N)];   /* lost at a cut: wort_open makes it anew */
     uint64_t keys[N], values[N], stores, value, nodes, count, more;
 

@@ -451,7 +451,9 @@ def walkthrough(library):
 Made by `tools/pictures.py` from the running library, which plans the put and makes its stores one step at a time: every word, answer and listing below is what the library's calls left and said. The names are those of
 document 01's example: {', '.join(hex(k) for k in KEYS)}, with file numbers 1 to 4. The pool has {PLACES} places ({len(pool.words)} words); what its words held before it was formatted is
 called "left over" ({hexed(LEFT_OVER)} here), and it plays no part. Keys and headers are in hexadecimal, references and file numbers in decimal. 
-![The layout of the pool](pictures/layout.svg)
+The pool's layout, drawn as it is after the put:
+
+![The layout of the pool, after the put](pictures/layout.svg)
 
 ## Before
 

@@ -18,6 +18,8 @@ part "crates listed"
 tools/listed.sh
 part "documents"
 tools/docs-check.py
+part "claims"
+tools/claims.sh
 part "proofs, must-fail edits and programs"
 mkdir -p build
 status=0

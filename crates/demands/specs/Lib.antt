@@ -6,3 +6,4 @@ pub mod Cases
 pub mod Mistakes
 pub mod Unique
 pub mod Opening
+pub mod Claims

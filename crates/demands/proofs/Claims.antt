@@ -1,0 +1,20 @@
+-- The claims have proofs. A checker accepts whatever laws it is given, or none: that this law is here, with this type, the test command sees to by
+-- its text (tools/claims.sh). Assumes nothing.
+use Rattle.demands.specs.Claims.{Claims}
+use Rattle.demands.proofs.Demand1.{demand1}
+use Rattle.demands.proofs.Demand2.{demand2-holds}
+use Rattle.demands.proofs.Demand3.{demand3-in-order, demand3-loosely}
+use Rattle.demands.proofs.Opening.{opens}
+use Rattle.demands.proofs.Unique.{unique}
+use Rattle.demands.proofs.Cases.{cases-hold}
+
+pub claims : Claims
+claims = record {
+  demand1 = demand1;
+  demand2 = demand2-holds;
+  demand3 = demand3-in-order;
+  demand3-more = demand3-loosely;
+  opening = opens;
+  one-outcome = unique;
+  examples = cases-hold;
+}
