@@ -1,6 +1,6 @@
 // Opening: the planning call, which answers the first store, and the whole call, which makes them all.
 ghost use mathlib.Core.Path.{_≡_};
-ghost use mathlib.Core.List.{[], _∷_, map as mapped};
+ghost use mathlib.Core.List.{map as mapped};
 ghost use Prim.Native.Nat.{ℕ, _+_, _-_, _<_, _≤_};
 ghost use lib.ListN.{length, getD, replicate};
 ghost use Rattle.pool.specs.Sizes.{Sized, bytesOf};
@@ -63,31 +63,15 @@ fn fresh_header(pool: &[u64], n: usize, w: usize, j: usize) -> Fresh
     Fresh::Header(survey::pack(w, b - w, near))
 }
 
-// A plan of one store.
-fn plan_of_one(word: usize, value: u64) -> Plan
-    ensures { λ r. ⌜ r ≡ planOf (record { word = word; value = value } ∷ []) Effect.Nothing ⌝ }
-{
-    let mut words = [0usize; 21];
-    let mut values = [0u64; 21];
-    words[0] = word;
-    values[0] = value;
-    Plan {
-        words,
-        values,
-        count: 1,
-        effect: Effect::Nothing,
-    }
-}
-
 // The store that mends node j, met at walk depth w, as a plan.
 fn mend_plan(pool: &[u64], n: usize, w: usize, j: usize) -> Plan
     requires { ⌜ Sized (now pool) n × (j + 1 < n) ⌝ }
     ensures { λ r. ⌜ r ≡ planOf (mendOf (now (pool .entry)) n w j) Effect.Nothing ⌝ }
 {
     let Fresh::Header(word) = fresh_header(pool, n, w, j) else {
-        return Plan::none();
+        return Plan::none(Effect::Nothing);
     };
-    plan_of_one(pool::node_word(n, j), word)
+    Plan::one(pool::node_word(n, j), word, Effect::Nothing)
 }
 
 // The store of the lowest-numbered stale node, as a plan, or a plan of none.
@@ -102,7 +86,7 @@ fn mend_first(pool: &[u64], n: usize, map: &[u8]) -> Plan
         }
         j += 1;
     }
-    Plan::none()
+    Plan::none(Effect::Nothing)
 }
 
 // The first store that open makes on a pool of n leaves, surveyed into a map that is all 0.
@@ -150,7 +134,8 @@ fn mend_node(pool: &mut [u64], n: usize, map: &[u8], j: usize) -> usize
     let Fresh::Header(word) = fresh_header(pool, n, marked_depth(map, n, j), j) else {
         return 0;
     };
-    plan::step(pool, plan_of_one(pool::node_word(n, j), word), 0);
+    let mended = Plan::one(pool::node_word(n, j), word, Effect::Nothing);
+    plan::step(pool, mended, 0);
     1
 }
 

@@ -1,9 +1,11 @@
 // Plans: at most 21 stores in order, each made by one step, and what they do to the map.
 ghost use mathlib.Core.Path.{_≡_};
-ghost use mathlib.Core.List.{[]};
-ghost use Prim.Native.Nat.{_<_};
+ghost use mathlib.Core.List.{[], _∷_};
+ghost use Prim.Native.Nat.{_+_, _-_, _^_, _≤_, _<_};
 ghost use lib.ListN.{length, set, replicate};
+ghost use Rattle.tree.specs.Stores.{block};
 ghost use Rattle.plan.specs.Effects.{bare};
+ghost use Rattle.plan.specs.Followed.{followed};
 ghost use Rattle.plan.specs.Plans.{planOf, refused, plannedOf, after, storeOf, storesOf, stepOf, finishOf, ran, runOf};
 
 // What a plan does to the map. Slots are named by their byte number in the map.
@@ -33,27 +35,73 @@ impl Plan {
     // Stores of a plan, at most.
     pub const MOST: usize = 21;
 
-    // The plan of none.
-    pub fn none() -> Plan
-        ensures { λ r. ⌜ r ≡ planOf [] Effect.Nothing ⌝ }
+    // A plan of no stores, with this effect.
+    pub fn none(effect: Effect) -> Plan
+        ensures { λ r. ⌜ r ≡ planOf [] effect ⌝ }
     {
         Plan {
             words: [0; 21],
             values: [0; 21],
             count: 0,
-            effect: Effect::Nothing,
+            effect,
+        }
+    }
+
+    // A plan of one store.
+    pub fn one(word: usize, value: u64, effect: Effect) -> Plan
+        ensures { λ r. ⌜ r ≡ planOf (record { word = word; value = value } ∷ []) effect ⌝ }
+    {
+        let mut words = [0usize; 21];
+        let mut values = [0u64; 21];
+        words[0] = word;
+        values[0] = value;
+        Plan {
+            words,
+            values,
+            count: 1,
+            effect,
+        }
+    }
+
+    // The plan with further stores behind its own: these values, from a word on.
+    pub fn then(self, word: usize, values: &[u64]) -> Plan
+        requires { ⌜ (self .count + length (now values) ≤ 21) × (length (now values) - 1 ≤ 2 ^ 64 - 1 - word) ⌝ }
+        ensures { λ r. ⌜ r ≡ followed self (block word (now (values .entry))) ⌝ }
+    {
+        let count = self.count;
+        let effect = self.effect;
+        let mut words = self.words;
+        let mut held = self.values;
+        let mut i: usize = 0;
+        while i < values.len() {
+            words[count + i] = word + i;
+            held[count + i] = values[i];
+            i += 1;
+        }
+        Plan {
+            words,
+            values: held,
+            count: count + i,
+            effect,
         }
     }
 }
 
 impl Planned {
+    // A plan that is to be made.
+    pub fn made(plan: Plan) -> Planned
+        ensures { λ r. ⌜ r ≡ record { number = 0; plan = plan } ⌝ }
+    {
+        Planned { number: 0, plan }
+    }
+
     // A refusal, with a plan that does nothing.
     pub fn refused(number: u64) -> Planned
         ensures { λ r. ⌜ r ≡ plannedOf (refused number) ⌝ }
     {
         Planned {
             number,
-            plan: Plan::none(),
+            plan: Plan::none(Effect::Nothing),
         }
     }
 }

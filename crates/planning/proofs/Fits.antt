@@ -4,7 +4,7 @@
 use mathlib.Core.Path.{_≡_, refl, sym, ap, _∙_}
 use mathlib.Core.Logic.{inl, inr}
 use mathlib.Core.Bool.{Bool, true, false}
-use mathlib.Core.List.{List, [], _∷_, _++_}
+use mathlib.Core.List.{List, [], _∷_}
 use Prim.Native.Nat.{ℕ, _+_, _-_, _≤_, _<_}
 use native.Mathlib.Omega.{arith}
 use borrow.Author.Tests.{ltb-true, eqb-true, eqb-false}
@@ -15,9 +15,9 @@ use Rattle.digits.specs.Choice.{pick}
 use Rattle.digits.specs.Digits.{firstDiff}
 use Rattle.digits.specs.Headers.{headerOf}
 use Rattle.tree.specs.Stores.{Store, block, tab}
-use Rattle.tree.proofs.Stores.{Words, words-append, words-block, length-tab}
+use Rattle.tree.proofs.Stores.{Words, words-block}
 use Rattle.pool.specs.Sizes.{capacityOf, bytesOf, Sized, Measured}
-use Rattle.pool.specs.Places.{wordAt, keyAt, headerAt, childAt, leafWord, nodeWord, nodeRef}
+use Rattle.pool.specs.Places.{wordAt, keyAt, headerAt, childAt, nodeWord}
 use Rattle.pool.specs.Refs.{refOf, Within}
 use Rattle.pool.specs.declared.Size.{Size}
 use Rattle.pool.specs.declared.Size.the-variants.{Holds, Wrong}
@@ -49,8 +49,7 @@ use Rattle.planning.specs.declared.splitting.Room.the-variants.{Slots, F
 use Rattle.planning.specs.Puts.{freeLeaf, growOf, splitChild, targetHeader, cleaving, roomOf, splitIn, splitOf}
 use Rattle.planning.specs.Puts.{cleftAt, placedAt, besideOf, belowLast, putAt, putIn, putPlan}
 use Rattle.planning.specs.Deletes.{emptied, liftOf, liftAt, mergeOf, unlinkOf, deleteAt, deleteIn, deletePlan}
-use Rattle.planning.proofs.Counts.{leaf-split-count, node-split-count}
-use Rattle.planning.proofs.Splits.{slots-inside, cleaving-is}
+use Rattle.planning.proofs.Splits.{slots-inside, split-all}
 
 -- a plan of so many stores, or a refusal that does nothing, with one of these numbers
 pub data Answers (numbers counts : List ℕ) (d : Decided) : Type 0 where
@@ -123,7 +122,7 @@ module _ {pool : List ℕ} (map : List ℕ) {n : ℕ} (z : Sized pool n) (l : le
       (λ e.
       let f = ltb-true (freeLeaf map n) n e in
       record {
-        inside = (omega arith, (omega arith, (h, tt)));
+        inside = search arith;
         few = omega arith;
         named = ((omega arith, tt), tt);
         answers = plans refl (hit putCounts 3 tt);
@@ -131,38 +130,36 @@ module _ {pool : List ℕ} (map : List ℕ) {n : ℕ} (z : Sized pool n) (l : le
       (λ e. refusal 4 (hit putNumbers 4 tt))
 
   split-fits : (s : Cleft) (target : Target) → s .at < length pool → Known n target → PutFits pool map (splitOf map n s k v target)
-  unfolding Words
+  unfolding Words block tab
   split-fits s target at< known = go (roomOf map n) refl
     where
       header : (target : Target) → Known n target → Words (λ w. w < length pool) (targetHeader n s target)
       header ALeaf h = tt
       header (ANode j b) h = (omega arith, tt)
 
-      count : (leaf node : ℕ) (target : Target)
-          → OneOf putCounts (length (putStores (cleaving n s leaf node k v target))) × (length (putStores (cleaving n s leaf node k v target)) ≤ 21)
-      count leaf node ALeaf = rw (leaf-split-count n s leaf node k v) (hit putCounts 20 tt, omega arith)
-      count leaf node (ANode j b) = rw (node-split-count n s leaf node k v j b) (hit putCounts 21 tt, omega arith)
+      counts : (leaf node : ℕ) (target : Target) → OneOf putCounts (length (putStores (cleaving n s leaf node k v target)))
+      counts leaf node ALeaf = hit putCounts (length (putStores (cleaving n s leaf node k v ALeaf))) tt
+      counts leaf node (ANode j b) = hit putCounts (length (putStores (cleaving n s leaf node k v (ANode j b)))) tt
+
+      few : (leaf node : ℕ) (target : Target) → length (putStores (cleaving n s leaf node k v target)) ≤ 21
+      few leaf node ALeaf = omega arith
+      few leaf node (ANode j b) = omega arith
 
       stores : (leaf node : ℕ) → leaf < n → node + 1 < n → Words (λ w. w < length pool) (putStores (cleaving n s leaf node k v target))
       stores leaf node a b =
           let P : ℕ → Type 0 = λ w. w < length pool in
           let vs = headerOf (s .depth) (s .diff - s .depth) k ∷ tab 16 (splitChild s leaf k) in
-          rw (cleaving-is n s leaf node k v target)
-          (words-append P (block (leafWord leaf) (k ∷ v ∷ []) ++ block (nodeWord n node) vs ++ targetHeader n s target) (store (s .at) (nodeRef node) ∷ [])
-          (words-append P (block (leafWord leaf) (k ∷ v ∷ []) ++ block (nodeWord n node) vs) (targetHeader n s target)
-          (words-append P (block (leafWord leaf) (k ∷ v ∷ [])) (block (nodeWord n node) vs) (words-block P (leafWord leaf) (k ∷ v ∷ []) (λ i g h. omega arith))
-          (words-block P (nodeWord n node) vs (λ i g h. omega (arith, length-tab 16 (splitChild s leaf k)))))
-          (header target known))
-          (at<, tt))
+          split-all P n s leaf node k v (omega arith) (omega arith)
+          (words-block P (nodeWord n node) vs (λ i g h. omega arith)) at< target (header target known)
 
       go : (r : Room) → roomOf map n ≡ r → PutFits pool map (splitIn n s k v target r)
       go (Slots leaf byte) e =
           let h = slots-inside map n (sym e) in
           record {
             inside = stores leaf (byte - n) (omega arith) (omega arith);
-            few = count leaf (byte - n) target .1;
+            few = few leaf (byte - n) target;
             named = ((omega arith, (omega arith, tt)), tt);
-            answers = plans refl (count leaf (byte - n) target .0);
+            answers = plans refl (counts leaf (byte - n) target);
           }
       go Full e = refusal 4 (hit putNumbers 4 tt)
 

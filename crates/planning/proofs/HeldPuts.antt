@@ -14,7 +14,7 @@ use Rattle.digits.specs.Digits.{firstDiff}
 use Rattle.digits.specs.Loops.{scan}
 use Rattle.digits.proofs.Digits.{digit-lt, first-diff-le, first-diff-agree, first-diff-differ, first-diff-same}
 use Rattle.pool.specs.Sizes.{bytesOf, capacityOf}
-use Rattle.pool.specs.Places.{wordAt, keyAt, nodeWord, leafWord, childWord, leafRef, nodeRef}
+use Rattle.pool.specs.Places.{wordAt, keyAt, nodeWord, leafWord, childWord, leafRef}
 use Rattle.pool.specs.declared.Size.the-variants.{Holds}
 use Rattle.tree.specs.Tree.{Tree, empty, leaf, node, mult, leaves, upd, Filled, sub, dep, pre, Stands, Agree, find, Good, GoodAt}
 use Rattle.tree.specs.Near.{filled, low, near, way}
@@ -25,7 +25,7 @@ use Rattle.tree.proofs.Places.{child}
 use Rattle.tree.proofs.Near.{Past, Gap, Placed, placed, lowest, filled-is, not-filled, stands-found}
 use Rattle.tree.proofs.Stores.{Words, words-append, words-block}
 use Rattle.layout.specs.Layout.{Held, base, refAt}
-use Rattle.layout.specs.Operations.{store, Putting, putStores, leafStores, nodeStores, replacing, growing}
+use Rattle.layout.specs.Operations.{store, Putting, putStores, leafStores, replacing, growing}
 use Rattle.layout.specs.Switches.{Puts}
 use Rattle.layout.proofs.Held.{holds-at, good-at}
 use Rattle.layout.proofs.Puts.{puts-value, puts-root, puts-child}
@@ -49,7 +49,7 @@ use Rattle.planning.specs.declared.splitting.Target.{Target}
 use Rattle.planning.specs.declared.splitting.Target.the-variants.{ALeaf, ANode}
 use Rattle.planning.specs.Puts.{freeLeaf, freeNode, growOf, targetHeader, cleaving, splitOf, cleftAt}
 use Rattle.planning.specs.Puts.{placedAt, besideOf, leafPut, emptyPut, putAt, putPlan}
-use Rattle.planning.proofs.Splits.{cleaving-is}
+use Rattle.planning.proofs.Splits.{split-all}
 use Rattle.planning.proofs.HeldRoom.{leaf-free, node-free, node-room, leaf-fewer, all-held}
 
 -- a tree in which a key's walk comes to a leaf is not empty
@@ -152,16 +152,7 @@ module _ (pool bytes : List ℕ) (n : ℕ) (pos : 1 ≤ n) (cap : n ≤ 1024) (t
     split-above : (z j : ℕ) (target : Target) → Words (λ w. 0 < w) (putStores (cleaving n cleft z j k v target))
     unfolding cleft Words
     split-above z j target =
-        let P : ℕ → Type 0 = λ w. 0 < w in
-        let leaf-stores = leafStores z k v in
-        let node-stores = nodeStores 16 n (dep π 0 t) f k k₂ z j (mem pool (refAt n 1 π t)) in
-        let header = targetHeader n cleft target in
-        rw (cleaving-is n cleft z j k v target)
-        (words-append P (leaf-stores ++ node-stores ++ header) (store (refAt n 1 π t) (nodeRef j) ∷ [])
-        (words-append P (leaf-stores ++ node-stores) header
-        (words-append P leaf-stores node-stores (block-above (leafWord z) (k ∷ v ∷ []) (omega arith)) (block-above (nodeWord n j) _ (omega arith)))
-        (header-above target))
-        (ref-above n 1 π t (omega arith), tt))
+        split-all (λ w. 0 < w) n cleft z j k v (omega arith) (omega arith) (block-above (nodeWord n j) _ (omega arith)) (ref-above n 1 π t (omega arith)) target (header-above target)
 
     split-is : (target : Target)
         → ((z j : ℕ) → z < n → mult z t ≡ 0 → j + 1 < n → mult (n + j) t ≡ 0

@@ -122,25 +122,6 @@ pub fn find_removal(pool: &[u64], n: usize, key: u64) -> Removal
     unlink(pool, n, s, i)
 }
 
-// A plan of one store.
-fn lay_one(word: usize, value: u64, effect: Effect) -> Planned
-    ensures { λ p. ⌜ p ≡ plannedOf (decided (store word value ∷ []) effect) ⌝ }
-{
-    let mut words = [0usize; 21];
-    let mut values = [0u64; 21];
-    words[0] = word;
-    values[0] = value;
-    Planned {
-        number: 0,
-        plan: Plan {
-            words,
-            values,
-            count: 1,
-            effect,
-        },
-    }
-}
-
 // A plan of two stores.
 fn lay_two(word: usize, value: u64, next: usize, header: u64, effect: Effect) -> Planned
     ensures { λ p. ⌜ p ≡ plannedOf (decided (store word value ∷ store next header ∷ []) effect) ⌝ }
@@ -168,9 +149,9 @@ fn lay(r: Removal) -> Planned
 {
     match r {
         Removal::Refused(number) => Planned::refused(number),
-        Removal::Emptied(at, leaf) => lay_one(at, 0, Effect::FreesLeaf(leaf)),
+        Removal::Emptied(at, leaf) => { Planned::made(Plan::one(at, 0, Effect::FreesLeaf(leaf))) }
         Removal::Bypassed(at, child, leaf, node) => {
-            lay_one(at, child, Effect::FreesBoth(leaf, node))
+            Planned::made(Plan::one(at, child, Effect::FreesBoth(leaf, node)))
         }
         Removal::Lifted(at, child, word, header, leaf, node) => {
             lay_two(at, child, word, header, Effect::FreesBoth(leaf, node))

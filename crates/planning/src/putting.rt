@@ -25,19 +25,8 @@ fn replace(i: usize, value: u64) -> Planned
     requires { ⌜ i < 1024 ⌝ }
     ensures { λ r. ⌜ r ≡ plannedOf (replaced i value) ⌝ }
 {
-    let mut words = [0usize; 21];
-    let mut values = [0u64; 21];
-    words[0] = pool::leaf_word(i) + 1;
-    values[0] = value;
-    Planned {
-        number: 0,
-        plan: Plan {
-            words,
-            values,
-            count: 1,
-            effect: Effect::Nothing,
-        },
-    }
+    let word = pool::leaf_word(i) + 1;
+    Planned::made(Plan::one(word, value, Effect::Nothing))
 }
 
 // The cleft at a spot of the walk.

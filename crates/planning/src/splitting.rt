@@ -6,9 +6,8 @@ ghost use lib.ListN.{length};
 ghost use Rattle.digits.specs.Headers.{headerOf};
 ghost use Rattle.tree.specs.Stores.{tab};
 ghost use Rattle.pool.specs.Sizes.{bytesOf};
-ghost use Rattle.pool.specs.Places.{leafWord, nodeWord};
-ghost use Rattle.plan.specs.Plans.{padded, plannedOf};
-ghost use Rattle.planning.specs.Puts.{growOf, splitOf, splitChild, roomOf, Splits};
+ghost use Rattle.plan.specs.Plans.{plannedOf};
+ghost use Rattle.planning.specs.Puts.{growOf, splitChild, roomOf, Splits, splitIn, splitOf};
 use crate::free::lowest_free;
 use digits::Header;
 use plan::Effect;
@@ -35,23 +34,12 @@ pub fn grow(map: &[u8], n: usize, key: u64, value: u64, at: usize) -> Planned
         return Planned::refused(4);
     }
     let word = pool::leaf_word(leaf);
-    let mut words = [0usize; 21];
-    let mut values = [0u64; 21];
-    words[0] = word;
-    values[0] = key; // the leaf first
-    words[1] = word + 1;
-    values[1] = value; // and whole
-    words[2] = at;
-    values[2] = pool::leaf_ref(leaf);
-    Planned {
-        number: 0,
-        plan: Plan {
-            words,
-            values,
-            count: 3,
-            effect: Effect::TakesLeaf(leaf),
-        },
-    }
+    let of_leaf = [key, value];
+    let link = [pool::leaf_ref(leaf)];
+    let plan = Plan::none(Effect::TakesLeaf(leaf));
+    let plan = plan.then(word, &of_leaf); // the leaf first, and whole
+    let plan = plan.then(at, &link); // the reference last
+    Planned::made(plan)
 }
 
 // Child c of the new node of a split: the new leaf, the old target, or nothing.
@@ -68,36 +56,16 @@ pub fn split_child(s: Cleft, leaf: usize, key: u64, c: usize) -> u64
     0
 }
 
-// The word numbers of a split's first 19 stores: the leaf's two words, then the new node's seventeen.
-fn split_words(n: usize, leaf: usize, node: usize) -> [usize; 21]
-    requires { ⌜ (n ≤ 1024) × (leaf < 1024) × (node < 1024) ⌝ }
-    ensures { λ r. ⌜ r ≡ padded (leafWord leaf ∷ (leafWord leaf + 1) ∷ tab 17 (λ i. nodeWord n node + i)) ⌝ }
-{
-    let leaf_word = pool::leaf_word(leaf);
-    let node_word = pool::node_word(n, node);
-    let mut words = [0usize; 21];
-    words[0] = leaf_word;
-    words[1] = leaf_word + 1;
-    let mut i: usize = 0;
-    while i <= Header::CHILDREN {
-        words[2 + i] = node_word + i;
-        i += 1;
-    }
-    words
-}
-
-// The values of a split's first 19 stores: the leaf's key and value, the new node's header and its children.
-fn split_values(s: Cleft, leaf: usize, key: u64, value: u64) -> [u64; 21]
+// The words of a split's new node: its header and its children.
+fn node_values(s: Cleft, leaf: usize, key: u64) -> [u64; 17]
     requires { ⌜ (leaf < 1024) × (s .depth ≤ s .diff) × (s .diff < 16) ⌝ }
-    ensures { λ r. ⌜ r ≡ padded (key ∷ value ∷ headerOf (s .depth) (s .diff - s .depth) key ∷ tab 16 (splitChild s leaf key)) ⌝ }
+    ensures { λ r. ⌜ r ≡ headerOf (s .depth) (s .diff - s .depth) key ∷ tab 16 (splitChild s leaf key) ⌝ }
 {
-    let mut values = [0u64; 21];
-    values[0] = key;
-    values[1] = value;
-    values[2] = Header::pack(s.depth, s.diff - s.depth, key);
+    let mut values = [0u64; 17];
+    values[0] = Header::pack(s.depth, s.diff - s.depth, key);
     let mut c: usize = 0;
     while c < Header::CHILDREN {
-        values[3 + c] = split_child(s, leaf, key, c);
+        values[1 + c] = split_child(s, leaf, key, c);
         c += 1;
     }
     values
@@ -130,7 +98,39 @@ pub fn find_room(map: &[u8], n: usize) -> Room
     Room::Slots(leaf, byte)
 }
 
-// The split of a reference: 20 stores for a leaf target, 21 for a node.
+// The stores of a split, in order, into a free leaf and a free node, by their bytes in the map: 20 for a leaf target, 21 for a node.
+fn split_into(
+    n: usize,
+    s: Cleft,
+    key: u64,
+    value: u64,
+    target: Target,
+    leaf: usize,
+    byte: usize,
+) -> Planned
+    requires { ⌜ (n ≤ 1024) × (leaf < n) × (n ≤ byte) × (byte < bytesOf n) × (s .depth ≤ s .diff) × (s .diff < 16) × Splits n s target ⌝ }
+    ensures { λ r. ⌜ r ≡ plannedOf (splitIn n s key value target (Room.Slots leaf byte)) ⌝ }
+{
+    let node = byte - n;
+    let leaf_word = pool::leaf_word(leaf);
+    let node_word = pool::node_word(n, node);
+    let of_leaf = [key, value];
+    let of_node = node_values(s, leaf, key);
+    let link = [pool::node_ref(node)];
+    let plan = Plan::none(Effect::TakesBoth(leaf, byte));
+    let plan = plan.then(leaf_word, &of_leaf); // what is new first, where no walk comes yet
+    let plan = plan.then(node_word, &of_node);
+    let Target::ANode(j, b) = target else {
+        return Planned::made(plan.then(s.at, &link));
+    };
+    let target_word = pool::node_word(n, j);
+    let of_target = [Header::pack(s.diff + 1, b - s.diff - 1, s.near)];
+    let plan = plan.then(target_word, &of_target); // until the reference is made this header is stale
+    let plan = plan.then(s.at, &link); // the reference last
+    Planned::made(plan)
+}
+
+// The split of a reference.
 pub fn split(map: &[u8], n: usize, s: Cleft, key: u64, value: u64, target: Target) -> Planned
     requires { ⌜ (n ≤ 1024) × (length (now map) ≡ bytesOf n) × (1 ≤ n) × (s .depth ≤ s .diff) × (s .diff < 16) × Splits n s target ⌝ }
     ensures { λ r. ⌜ r ≡ plannedOf (splitOf (now (map .entry)) n s key value target) ⌝ }
@@ -138,35 +138,5 @@ pub fn split(map: &[u8], n: usize, s: Cleft, key: u64, value: u64, target: Targe
     let Room::Slots(leaf, byte) = find_room(map, n) else {
         return Planned::refused(4);
     };
-    let node = byte - n;
-    let mut words = split_words(n, leaf, node);
-    let mut values = split_values(s, leaf, key, value);
-    let reference = pool::node_ref(node);
-    let effect = Effect::TakesBoth(leaf, byte);
-    let Target::ANode(j, b) = target else {
-        words[19] = s.at;
-        values[19] = reference;
-        return Planned {
-            number: 0,
-            plan: Plan {
-                words,
-                values,
-                count: 20,
-                effect,
-            },
-        };
-    };
-    words[19] = pool::node_word(n, j);
-    values[19] = Header::pack(s.diff + 1, b - s.diff - 1, s.near);
-    words[20] = s.at;
-    values[20] = reference;
-    Planned {
-        number: 0,
-        plan: Plan {
-            words,
-            values,
-            count: 21,
-            effect,
-        },
-    }
+    split_into(n, s, key, value, target, leaf, byte)
 }

@@ -14,7 +14,7 @@ use Rattle.tree.proofs.Basics.{Same?, same, other, same?, less?}
 use Rattle.tree.proofs.Stores.{length-tab}
 use Rattle.pool.specs.Places.{leafWord, nodeWord, leafRef, nodeRef}
 use Rattle.digits.specs.Headers.{headerOf}
-use Rattle.layout.specs.Operations.{store, putStores}
+use Rattle.layout.specs.Operations.{store, putStores, splitting}
 use Rattle.plan.specs.Plans.{decided, refused, made, After, after, storeOf, finishOf}
 use Rattle.plan.specs.declared.Effect.{Effect}
 use Rattle.plan.specs.declared.Effect.the-variants.{TakesLeaf, TakesBoth}
@@ -28,7 +28,6 @@ use Rattle.planning.specs.Puts.{freeLeaf, growOf, splitChild, targetHeader, cle
 use Rattle.writing.specs.Calls.{done, left, wholeOf}
 use Rattle.planning.proofs.Arrays.{tab-last}
 use Rattle.planning.proofs.Counts.{leaf-split-count, node-split-count}
-use Rattle.planning.proofs.Splits.{cleaving-is}
 
 -- a store that is made, inside or not
 pub stored : (l : List ℕ) (i v : ℕ) {k : ℕ} {l′ : List ℕ} → after k l′ ≡ storeOf i v l → l′ ≡ set l i v
@@ -104,6 +103,12 @@ target-few n s (ANode j b) = omega arith
 last-made : (w x : ℕ) (pool : List ℕ) → made (store w x ∷ []) pool ≡ set pool w x
 unfolding made
 last-made w x pool = refl
+
+-- of a leaf and of a node alike
+cleaving-is : (n : ℕ) (s : Cleft) (leaf node k v : ℕ) (target : Target)
+    → cleaving n s leaf node k v target ≡ splitting 16 n (s .depth) (s .diff) k v (s .near) leaf node (s .at) (s .old) (targetHeader n s target)
+cleaving-is n s leaf node k v ALeaf = refl
+cleaving-is n s leaf node k v (ANode j b) = refl
 
 split-stored : (n : ℕ) (s : Cleft) (leaf node k v : ℕ) (target : Target) (pool : List ℕ)
     → made (putStores (cleaving n s leaf node k v target)) pool

@@ -42,8 +42,8 @@ returns-2 c =
 node-word-requires : tie.Need-node-word-requires
 node-word-requires c κs = search needs
 
-plan-of-one-requires : tie.Need-plan-of-one-requires
-plan-of-one-requires c κs = search needs
+one-requires : tie.Need-one-requires
+one-requires c κs = search needs
 
 step-requires : tie.Need-step-requires
 step-requires c κs = search needs
@@ -59,7 +59,7 @@ returns-3 c =
     let a = z .args in
     mend-done (a .n) (a .map .now) (a .j) (a .pool .now) (y .before .is-stale .ensures) (y .if1 .left) (x .before .before .before .marked-depth .ensures)
     (rw (x .word .given .1) at (x .before .before .fresh-header .ensures))
-    (omega (arith, z .pre .0 .words, z .pre .2)) (c .before .before .before .before .node-word .ensures) (c .before .before .before .plan-of-one .ensures)
+    (omega (arith, z .pre .0 .words, z .pre .2)) (c .before .before .before .before .before .node-word .ensures) (c .before .before .before .before .one .ensures)
     (c .before .before .step .ensures)
 
 pub mend-node-spec : {M : Type 1} → statement M
@@ -76,7 +76,7 @@ mend-node-spec =
     same-length-2
     returns-2
     node-word-requires
-    plan-of-one-requires
+    one-requires
     step-requires
     same-length-3
     returns-3)

@@ -26,14 +26,14 @@ returns c = c .none .ensures ∙ ap (λ (σ : List Store). planOf σ Nothing) (r
 node-word-requires : tie.Need-node-word-requires
 node-word-requires c κs = search needs
 
-plan-of-one-requires : tie.Need-plan-of-one-requires
-plan-of-one-requires c κs = search needs
+one-requires : tie.Need-one-requires
+one-requires c κs = search needs
 
 returns-2 : tie.Need-returns-2
 returns-2 c =
     let at-word = c .before .before .before in
     let at-fresh-header = at-word .before .before in
-    c .plan-of-one .ensures ∙ rw (c .before .node-word .ensures)
+    c .one .ensures ∙ rw (c .before .node-word .ensures)
     (ap (λ (σ : List Store). planOf σ Nothing) (rw (at-word .word .given .1) at (at-fresh-header .fresh-header .ensures)))
 
 pub mend-plan-spec : {M : Type 1} → statement M
@@ -46,5 +46,5 @@ mend-plan-spec =
     none-requires
     returns
     node-word-requires
-    plan-of-one-requires
+    one-requires
     returns-2)

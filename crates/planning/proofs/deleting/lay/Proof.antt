@@ -12,14 +12,20 @@ refused-requires c κs = search needs
 enum-known-r-2 : tie.Need-enum-known-r-2
 enum-known-r-2 c = search needs
 
-lay-one-requires : tie.Need-lay-one-requires
-lay-one-requires c κs = search needs
+one-requires : tie.Need-one-requires
+one-requires c κs = search needs
+
+made-requires : tie.Need-made-requires
+made-requires c κs = search needs
 
 enum-known-r-3 : tie.Need-enum-known-r-3
 enum-known-r-3 c = search needs
 
-lay-one-requires-2 : tie.Need-lay-one-requires-2
-lay-one-requires-2 c κs = search needs
+one-requires-2 : tie.Need-one-requires-2
+one-requires-2 c κs = search needs
+
+made-requires-2 : tie.Need-made-requires-2
+made-requires-2 c κs = search needs
 
 enum-known-r-4 : tie.Need-enum-known-r-4
 enum-known-r-4 c = search needs
@@ -31,10 +37,10 @@ returns : tie.Need-returns
 returns c = rw (c .before .before .r .given .1) (c .refused .ensures)
 
 returns-2 : tie.Need-returns-2
-returns-2 c = rw (c .before .before .r2 .given .1) (c .lay-one .ensures)
+returns-2 c = rw (c .before .before .before .r2 .given .1, c .made .ensures, c .before .one .ensures)
 
 returns-3 : tie.Need-returns-3
-returns-3 c = rw (c .before .before .r3 .given .1) (c .lay-one2 .ensures)
+returns-3 c = rw (c .before .before .before .r3 .given .1, c .made2 .ensures, c .before .one2 .ensures)
 
 returns-4 : tie.Need-returns-4
 returns-4 c = rw (c .before .before .r4 .given .1) (c .lay-two .ensures)
@@ -46,9 +52,11 @@ lay-spec =
     enum-known-r
     refused-requires
     enum-known-r-2
-    lay-one-requires
+    one-requires
+    made-requires
     enum-known-r-3
-    lay-one-requires-2
+    one-requires-2
+    made-requires-2
     enum-known-r-4
     lay-two-requires
     returns

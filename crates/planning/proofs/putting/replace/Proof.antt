@@ -6,18 +6,17 @@ use Rattle.planning.proofs.putting.replace.Tie as tie
 leaf-word-requires : tie.Need-leaf-word-requires
 leaf-word-requires c κs = search needs
 
-add-words : tie.Need-add-words
-add-words c = search needs
+add-word : tie.Need-add-word
+add-word c = search needs
 
-array-write-words : tie.Need-array-write-words
-array-write-words c = search needs
+one-requires : tie.Need-one-requires
+one-requires c κs = search needs
 
-array-write-values : tie.Need-array-write-values
-array-write-values c = search needs
+made-requires : tie.Need-made-requires
+made-requires c κs = search needs
 
 returns : tie.Need-returns
-returns c = rw (c .leaf-word .ensures)
+returns c = rw (c .made .ensures, c .before .one .ensures, c .before .before .leaf-word .ensures)
 
 pub replace-spec : {M : Type 1} → statement M
-replace-spec =
-    tie.close (tie.spec leaf-word-requires add-words array-write-words array-write-values returns)
+replace-spec = tie.close (tie.spec leaf-word-requires add-word one-requires made-requires returns)

@@ -1,7 +1,9 @@
 -- `grow` takes the lowest free leaf, and plans three stores. Assumes nothing.
+use native.Mathlib.Omega.{arith}
 use borrow.Author.Tests.{lt-ltb, le-ltb}
 use borrow.Author.Needs.{needs}
 use Rattle.tree.specs.Stores.{block}
+use Rattle.plan.specs.Followed.{followed}
 use Rattle.planning.proofs.splitting.grow.Statement.{statement}
 use Rattle.planning.proofs.splitting.grow.Tie as tie
 
@@ -17,36 +19,43 @@ returns c = rw (← c .before .before .lowest-free .ensures, le-ltb _ _ (c .befo
 leaf-word-requires : tie.Need-leaf-word-requires
 leaf-word-requires c κs = search needs
 
-array-write-words : tie.Need-array-write-words
-array-write-words c = search needs
-
-array-write-values : tie.Need-array-write-values
-array-write-values c = search needs
-
-add-words : tie.Need-add-words
-add-words c = search needs
-
-array-write-words-2 : tie.Need-array-write-words-2
-array-write-words-2 c = search needs
-
-array-write-values-2 : tie.Need-array-write-values-2
-array-write-values-2 c = search needs
-
-array-write-words-3 : tie.Need-array-write-words-3
-array-write-words-3 c = search needs
-
 leaf-ref-requires : tie.Need-leaf-ref-requires
 leaf-ref-requires c κs = search needs
 
-array-write-values-3 : tie.Need-array-write-values-3
-array-write-values-3 c = search needs
+none-requires : tie.Need-none-requires
+none-requires c κs = search needs
+
+slice-aggregate-then : tie.Need-slice-aggregate-then
+slice-aggregate-then c = search needs
+
+then-requires : tie.Need-then-requires
+then-requires c κs = rw (c .before .none .ensures) (omega arith, omega arith)
+
+slice-aggregate-then-2 : tie.Need-slice-aggregate-then-2
+slice-aggregate-then-2 c = search needs
+
+then-requires-2 : tie.Need-then-requires-2
+unfolding followed block
+then-requires-2 c κs = rw (c .before .then .ensures, c .before .before .before .none .ensures) (omega arith, omega arith)
+
+made-requires : tie.Need-made-requires
+made-requires c κs = search needs
 
 returns-2 : tie.Need-returns-2
-unfolding block
+unfolding followed block
 returns-2 c =
-    let at-if1 = c .before .before in
-    let at-lowest-free = at-if1 .before in
-    rw (← at-lowest-free .lowest-free .ensures, lt-ltb _ _ (at-if1 .if1 .left), c .before .leaf-word .ensures, c .leaf-ref .ensures)
+    let at-none = c .before .before .before .before .before in
+    let at-if1 = at-none .before .before .before in
+    rw (
+      c .made .ensures,
+      c .before .then2 .ensures,
+      c .before .before .before .then .ensures,
+      at-none .none .ensures,
+      ← at-if1 .before .lowest-free .ensures,
+      lt-ltb _ _ (at-if1 .if1 .left),
+      at-none .before .before .leaf-word .ensures,
+      at-none .before .leaf-ref .ensures,
+    )
 
 pub grow-spec : {M : Type 1} → statement M
 grow-spec =
@@ -56,12 +65,11 @@ grow-spec =
     refused-requires
     returns
     leaf-word-requires
-    array-write-words
-    array-write-values
-    add-words
-    array-write-words-2
-    array-write-values-2
-    array-write-words-3
     leaf-ref-requires
-    array-write-values-3
+    none-requires
+    slice-aggregate-then
+    then-requires
+    slice-aggregate-then-2
+    then-requires-2
+    made-requires
     returns-2)
