@@ -63,7 +63,7 @@ impl Plan {
         }
     }
 
-    // The plan with further stores behind its own: these values, from a word on.
+    // The plan with further stores behind its own: these values, from a word on. There is room for them, and their last word is a machine number.
     pub fn then(self, word: usize, values: &[u64]) -> Plan
         requires { ⌜ (self .count + length (now values) ≤ 21) × (length (now values) - 1 ≤ 2 ^ 64 - 1 - word) ⌝ }
         ensures { λ r. ⌜ r ≡ followed self (block word (now (values .entry))) ⌝ }

@@ -1,10 +1,8 @@
 // Planning a delete.
 ghost use mathlib.Core.Path.{_≡_};
-ghost use mathlib.Core.List.{[], _∷_};
 ghost use Prim.Native.Nat.{_+_, _<_, _≤_};
 ghost use Rattle.pool.specs.Sizes.{Sized, capacityOf};
-ghost use Rattle.layout.specs.Operations.{store};
-ghost use Rattle.plan.specs.Plans.{plannedOf, decided};
+ghost use Rattle.plan.specs.Plans.{plannedOf};
 ghost use Rattle.planning.specs.Removals.{decidedBy};
 ghost use Rattle.planning.specs.Deletes.{emptied, bypassed, liftIn, mergeWith, unlinkOf, missOf, deletePlan};
 use digits::Header;
@@ -122,27 +120,6 @@ pub fn find_removal(pool: &[u64], n: usize, key: u64) -> Removal
     unlink(pool, n, s, i)
 }
 
-// A plan of two stores.
-fn lay_two(word: usize, value: u64, next: usize, header: u64, effect: Effect) -> Planned
-    ensures { λ p. ⌜ p ≡ plannedOf (decided (store word value ∷ store next header ∷ []) effect) ⌝ }
-{
-    let mut words = [0usize; 21];
-    let mut values = [0u64; 21];
-    words[0] = word;
-    values[0] = value;
-    words[1] = next;
-    values[1] = header;
-    Planned {
-        number: 0,
-        plan: Plan {
-            words,
-            values,
-            count: 2,
-            effect,
-        },
-    }
-}
-
 // A removal's stores as a plan.
 fn lay(r: Removal) -> Planned
     ensures { λ p. ⌜ p ≡ plannedOf (decidedBy r) ⌝ }
@@ -154,7 +131,9 @@ fn lay(r: Removal) -> Planned
             Planned::made(Plan::one(at, child, Effect::FreesBoth(leaf, node)))
         }
         Removal::Lifted(at, child, word, header, leaf, node) => {
-            lay_two(at, child, word, header, Effect::FreesBoth(leaf, node))
+            let plan = Plan::one(at, child, Effect::FreesBoth(leaf, node));
+            let of_child = [header];
+            Planned::made(plan.then(word, &of_child))
         }
     }
 }

@@ -1,5 +1,8 @@
 -- `lay` lays out each kind of removal. Assumes nothing.
+use native.Mathlib.Omega.{arith}
 use borrow.Author.Needs.{needs}
+use Rattle.tree.specs.Stores.{block}
+use Rattle.plan.specs.Followed.{followed}
 use Rattle.planning.proofs.deleting.lay.Statement.{statement}
 use Rattle.planning.proofs.deleting.lay.Tie as tie
 
@@ -30,8 +33,17 @@ made-requires-2 c κs = search needs
 enum-known-r-4 : tie.Need-enum-known-r-4
 enum-known-r-4 c = search needs
 
-lay-two-requires : tie.Need-lay-two-requires
-lay-two-requires c κs = search needs
+one-requires-3 : tie.Need-one-requires-3
+one-requires-3 c κs = search needs
+
+slice-aggregate-then : tie.Need-slice-aggregate-then
+slice-aggregate-then c = search needs
+
+then-requires : tie.Need-then-requires
+then-requires c κs = rw (c .before .one3 .ensures) (omega arith, omega arith)
+
+made-requires-3 : tie.Need-made-requires-3
+made-requires-3 c κs = search needs
 
 returns : tie.Need-returns
 returns c = rw (c .before .before .r .given .1) (c .refused .ensures)
@@ -43,7 +55,10 @@ returns-3 : tie.Need-returns-3
 returns-3 c = rw (c .before .before .before .r3 .given .1, c .made2 .ensures, c .before .one2 .ensures)
 
 returns-4 : tie.Need-returns-4
-returns-4 c = rw (c .before .before .r4 .given .1) (c .lay-two .ensures)
+unfolding followed block
+returns-4 c =
+    let at-one = c .before .before .before in
+    rw (at-one .before .before .r4 .given .1, c .made3 .ensures, c .before .then .ensures, at-one .one3 .ensures)
 
 pub lay-spec : {M : Type 1} → statement M
 lay-spec =
@@ -58,7 +73,10 @@ lay-spec =
     one-requires-2
     made-requires-2
     enum-known-r-4
-    lay-two-requires
+    one-requires-3
+    slice-aggregate-then
+    then-requires
+    made-requires-3
     returns
     returns-2
     returns-3
