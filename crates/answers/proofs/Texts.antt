@@ -117,7 +117,8 @@ unfolding upto
 entry-more keys values i start before now e f = f ∙ rw (e, add-one)
 
 -- the count after the entries
-pub listed : (keys values : List ℕ) (count n i : ℕ) (start before now : Page) → n ≡ min count (min (length keys) (length values)) → n ≤ i → i ≤ n → before ≡ entriesOf i keys values start
+pub listed : (keys values : List ℕ) (count n i : ℕ) (start before now : Page) → n ≡ min count (min (length keys) (length values)) → n ≤ i → i ≤ n
+    → before ≡ entriesOf i keys values start
     → now ≡ written (textOf (End count)) before → now ≡ listingOf keys values count start
 listed keys values count n i start before now e h l f g =
     let w : i ≡ min count (min (length keys) (length values)) = omega arith in

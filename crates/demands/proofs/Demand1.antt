@@ -127,7 +127,8 @@ format-whole pool map n = record {
     F : Formats pool map n (formatOf pool map n)
     F = format-formats pool map n
 
-    unchanged : run.OneOf (0 ∷ 1 ∷ []) (formatOf pool map n .number) → (formatOf pool map n .number ≡ 0 → ⊥) → (_≡_ {A = ℕ} 0 0) × (formatOf pool map n .pool ≡ pool) × (formatOf pool map n .map ≡ map)
+    unchanged : run.OneOf (0 ∷ 1 ∷ []) (formatOf pool map n .number) → (formatOf pool map n .number ≡ 0 → ⊥)
+        → (_≡_ {A = ℕ} 0 0) × (formatOf pool map n .pool ≡ pool) × (formatOf pool map n .map ≡ map)
     unchanged (inl e) z = absurd (z e)
     unchanged (inr e) z = (refl, ap (λ (f : Formatted). f .pool) (F .unchanged e), ap (λ (f : Formatted). f .map) (F .unchanged e))
 
@@ -208,10 +209,12 @@ module _ (pool : List ℕ) (from : ℕ) (ks vs : List ℕ) where
 
 -- ---- open
 module _ (pool bytes : List ℕ) where
-  open-refused : (openOf pool bytes .answer .number ≡ 0 → ⊥) → (openOf pool bytes .pool ≡ pool) × (openOf pool bytes .answer .keys ≡ 0) × (openOf pool bytes .answer .headers ≡ 0)
+  open-refused : (openOf pool bytes .answer .number ≡ 0 → ⊥)
+      → (openOf pool bytes .pool ≡ pool) × (openOf pool bytes .answer .keys ≡ 0) × (openOf pool bytes .answer .headers ≡ 0)
   open-refused h = go (same? (openOf pool bytes .answer .number) 1)
     where
-      go : Same? (openOf pool bytes .answer .number) 1 → (openOf pool bytes .pool ≡ pool) × (openOf pool bytes .answer .keys ≡ 0) × (openOf pool bytes .answer .headers ≡ 0)
+      go : Same? (openOf pool bytes .answer .number) 1
+          → (openOf pool bytes .pool ≡ pool) × (openOf pool bytes .answer .keys ≡ 0) × (openOf pool bytes .answer .headers ≡ 0)
       go (same e q) = rw (open-size pool bytes e) (refl, refl, refl)
       go (other e q) = rw (open-damage pool bytes (omega (arith, open-number pool bytes, e, h))) (refl, refl, refl)
 
@@ -243,7 +246,8 @@ demand1 = record {
     inside = words-inside (length pool) (openPlan pool .stores) (plan-modest pool .inside);
   };
   put = λ pool map k v. record {
-    number-is = subst (OneOf (0 ∷ 1 ∷ 2 ∷ 4 ∷ [])) (sym (put-whole-number pool map k v)) (one-of (0 ∷ 1 ∷ 2 ∷ 4 ∷ []) (putPlan pool map k v .number) (put-number pool map k v));
+    number-is = subst (OneOf (0 ∷ 1 ∷ 2 ∷ 4 ∷ [])) (sym (put-whole-number pool map k v))
+        (one-of (0 ∷ 1 ∷ 2 ∷ 4 ∷ []) (putPlan pool map k v .number) (put-number pool map k v));
     refusal = λ z. left-kept (put-refused pool map k v (λ e. z (put-whole-number pool map k v ∙ e)));
     same-words = put-lengths pool map k v .0;
     same-bytes = put-lengths pool map k v .1;

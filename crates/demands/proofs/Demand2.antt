@@ -67,7 +67,10 @@ module _ (pool map : List ℕ) (T : Table) (r : Reading pool map T) where
 
       lacks : (k : ℕ) → T k ≡ none → DeleteIs pool (r .sound .n) (S .t) k (deletePlan pool k) → deletePlan pool k .number ≡ 3
       lacks k g (absent e new) = number-of e
-      lacks k g (deletes o e v p W n found above) = let q : _≡_ {A = Option ℕ} none (some v) = sym g ∙ S .table k ∙ found in let z : _≡_ {A = ℕ} 0 1 = cc in absurd (omega arith)
+      lacks k g (deletes o e v p W n found above) =
+          let q : _≡_ {A = Option ℕ} none (some v) = sym g
+          ∙ S .table k
+          ∙ found in let z : _≡_ {A = ℕ} 0 1 = cc in absurd (omega arith)
 
       held : (k v : ℕ) → T k ≡ some v → DeleteIs pool (r .sound .n) (S .t) k (deletePlan pool k) → deletePlan pool k .number ≡ 0
       held k v g (absent e new) = let q : _≡_ {A = Option ℕ} (some v) none = sym g ∙ S .table k ∙ new in let z : _≡_ {A = ℕ} 0 1 = cc in absurd (omega arith)

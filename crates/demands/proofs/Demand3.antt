@@ -58,11 +58,14 @@ fresh-state : (n : ℕ) (pool map : List ℕ) → formatOf pool map n .number �
 unfolding formatOf
 fresh-state n pool map z = go (sizeOf (length pool) n) refl (size-fits pool n) z
   where
-    go : (s : Size) → s ≡ sizeOf (length pool) n → Measured pool s → formatIn pool map s .number ≡ 0 → State n (formatIn pool map s .pool) (some (formatIn pool map s .map)) blank
+    go : (s : Size) → s ≡ sizeOf (length pool) n → Measured pool s → formatIn pool map s .number ≡ 0
+        → State n (formatIn pool map s .pool) (some (formatIn pool map s .map)) blank
     go (Holds m) e sized z = mapped (same? (length map) (bytesOf m))
       where
         mapped : Same? (length map) (bytesOf m) → State n (formatIn pool map (Holds m) .pool) (some (formatIn pool map (Holds m) .map)) blank
-        mapped (same b q) = rw q (subst (λ (i : ℕ). State i (set (set pool 1 0) 0 m) (some (replicate (length map) 0)) blank) (size-same (length pool) n m e) (blank-state m pool map sized b))
+        mapped (same b q) =
+            rw q (subst (λ (i : ℕ). State i (set (set pool 1 0) 0 m) (some (replicate (length map) 0)) blank) (size-same (length pool) n m e)
+            (blank-state m pool map sized b))
         mapped (other b q) = absurd (omega (arith, rw q at z))
     go Wrong e sized z = absurd (omega (arith, z))
 
@@ -106,7 +109,8 @@ module _ {n : ℕ} {pool : List ℕ} {T : Table} where
 
 -- ---- every state that is reached
 module _ (C : Cut) (within : (o : Op) (σ τ : List Store) (b : Bool) → 0 < length σ → C o σ τ b → Loosely o σ τ b) where
-  stores-some : {n : ℕ} {pool map : List ℕ} {T : Table} (S : State n pool (some map) T) (o : Op) → planned o pool map .number ≡ 0 → 0 < length (planned o pool map .stores)
+  stores-some : {n : ℕ} {pool map : List ℕ} {T : Table} (S : State n pool (some map) T) (o : Op) → planned o pool map .number ≡ 0
+      → 0 < length (planned o pool map .stores)
   stores-some S o z =
       let U = turns S o z in
       rw (U .plan) (omega (arith, length-append (U .before) (U .switch ∷ U .rest)))
@@ -115,7 +119,8 @@ module _ (C : Cut) (within : (o : Op) (σ τ : List Store) (b : Bool) → 0 < le
   reach-state {n = n} (fresh pool map z) = fresh-state n pool map z
   reach-state (done o r z) = done-state (reach-state r) o z
   reach-state (refused o r z) = refused-state (reach-state r) o z
-  reach-state (cut {pool = pool} {map = map} o {τ = τ} {b = b} r z c) = let S = reach-state r in cut-state S o z (within o (planned o pool map .stores) τ b (stores-some S o z) c)
+  reach-state (cut {pool = pool} {map = map} o {τ = τ} {b = b} r z c) =
+      let S = reach-state r in cut-state S o z (within o (planned o pool map .stores) τ b (stores-some S o z) c)
   reach-state (lost r) = let S = reach-state r in unmapped S
   reach-state {n = n} (reopening {pool = pool} k r) = let S = reach-state r in reopened S k
   reach-state {n = n} (opened {pool = pool} bytes r e) = let S = reach-state r in open-state S bytes e

@@ -56,11 +56,13 @@ module _ (pool : List ℕ) (n : ℕ) (pos : 1 ≤ n) (cap : n ≤ 1024) (t : Tre
   mended-reads : (T : Table) → Reads pool T → Reads mended T
   mended-reads T r = record {
     lookup = λ k.
-        subst (λ (o : Option ℕ). Finds o (lookupOf mended k)) (sym (finds-one (T k) (find dig k t) (lookupOf pool k) (r .lookup k) (lookup-held pool n t fits (P .held) k)))
+        subst (λ (o : Option ℕ). Finds o (lookupOf mended k))
+        (sym (finds-one (T k) (find dig k t) (lookupOf pool k) (r .lookup k) (lookup-held pool n t fits (P .held) k)))
         (lookup-held mended n t fits′ (P′ .held) k);
     rows = r .rows;
     written = r .written;
-    listing = λ from ks vs a b. list-held mended n t fits′ (P′ .held) from ks vs a b ∙ sym (list-held pool n t fits (P .held) from ks vs a b) ∙ r .listing from ks vs a b;
+    listing = λ from ks vs a b. list-held mended n t fits′ (P′ .held) from ks vs a b ∙ sym (list-held pool n t fits (P .held) from ks vs a b)
+        ∙ r .listing from ks vs a b;
   }
 
   restored : (bytes : List ℕ) → length bytes ≡ bytesOf n → Restored pool bytes
@@ -70,7 +72,8 @@ module _ (pool : List ℕ) (n : ℕ) (pos : 1 ≤ n) (cap : n ≤ 1024) (t : Tre
       record {
         before = s;
         after = rw o mended-straight;
-        exact = rw o (subst (λ (m : ℕ). Exact mended m (map reached (M n pos cap t))) (sym (sound-capacity pool n s fits)) (marked-exact mended (map reached (M n pos cap t)) n t (P′ .held) (reached-marked n pos cap t pool P)));
+        exact = rw o (subst (λ (m : ℕ). Exact mended m (map reached (M n pos cap t))) (sym (sound-capacity pool n s fits))
+            (marked-exact mended (map reached (M n pos cap t)) n t (P′ .held) (reached-marked n pos cap t pool P)));
         same = λ T r. rw o (mended-reads T r);
         again = rw o (none-left n pos cap t pool P);
       }

@@ -179,11 +179,13 @@ module _ {n : ℕ} {pool bytes : List ℕ} {T : Table} (S : State n pool (some b
   pub whole-done : (o : Op) → planned o pool bytes .number ≡ 0 → whole o pool bytes ≡ wholeMade (planned o pool bytes)
   whole-done o z = whole-is o ∙ rw (eq-eqb (planned o pool bytes .number) 0 z)
 
-  pub whole-refused : (o : Op) → (planned o pool bytes .number ≡ 0 → ⊥) → whole o pool bytes ≡ record { done = record { number = planned o pool bytes .number; stores = 0 }; pool = pool; map = bytes }
+  pub whole-refused : (o : Op) → (planned o pool bytes .number ≡ 0 → ⊥)
+      → whole o pool bytes ≡ record { done = record { number = planned o pool bytes .number; stores = 0 }; pool = pool; map = bytes }
   whole-refused o z = whole-is o ∙ rw (ne-eqb (planned o pool bytes .number) 0 z)
 
   -- all stores made and the map finished: the changed table
-  made-state : (o : Op) → planned o pool bytes .number ≡ 0 → State n (made (planned o pool bytes .stores) pool) (some (finishOf (planned o pool bytes .effect) bytes .left)) (effect o T)
+  made-state : (o : Op) → planned o pool bytes .number ≡ 0
+      → State n (made (planned o pool bytes .stores) pool) (some (finishOf (planned o pool bytes .effect) bytes .left)) (effect o T)
   made-state o z = rw (U .plan) (record {
     pos = S .pos;
     cap = S .cap;
@@ -191,7 +193,8 @@ module _ {n : ℕ} {pool bytes : List ℕ} {T : Table} (S : State n pool (some b
     holds = stored S (U .before ++ U .switch ∷ U .rest) (U .inside) (U .above) (U .switches .after) (U .switches .since (U .rest) (part-all (U .rest)));
     table = U .switches .becomes .0;
     names = effect-names o T (S .names);
-    marks = λ b e. subst (λ (m : List ℕ). Marked n m (U .switches .after)) (some-is e) (finish-marks n bytes (U .marks) t (U .switches .after) M (S .holds .held .once) (U .switches .becomes .1) (U .named));
+    marks = λ b e. subst (λ (m : List ℕ). Marked n m (U .switches .after)) (some-is e)
+        (finish-marks n bytes (U .marks) t (U .switches .after) M (S .holds .held .once) (U .switches .becomes .1) (U .named));
   })
     where
       U : Turns o n pool t T (planned o pool bytes)
@@ -214,13 +217,15 @@ module _ {n : ℕ} {pool bytes : List ℕ} {T : Table} (S : State n pool (some b
     U = turns o z
 
     -- some of the stores, which leave a tree that is a table
-    cut-holds : (τ : List Store) (t′ : Tree ℕ) (T′ : Table) → Part (U .before ++ U .switch ∷ U .rest) τ → Held 16 n (run τ (mem pool)) t′ → ((k : ℕ) → T′ k ≡ find dig k t′) → Names T′
+    cut-holds : (τ : List Store) (t′ : Tree ℕ) (T′ : Table) → Part (U .before ++ U .switch ∷ U .rest) τ → Held 16 n (run τ (mem pool)) t′
+        → ((k : ℕ) → T′ k ≡ find dig k t′) → Names T′
         → State n (made τ pool) none T′
     cut-holds τ t′ T′ p H is ok = record {
       pos = S .pos;
       cap = S .cap;
       t = t′;
-      holds = stored S τ (words-part (λ w. w < length pool) (U .before ++ U .switch ∷ U .rest) τ p (U .inside)) (words-part (λ w. 0 < w) (U .before ++ U .switch ∷ U .rest) τ p (U .above)) t′ H;
+      holds = stored S τ (words-part (λ w. w < length pool) (U .before ++ U .switch ∷ U .rest) τ p (U .inside))
+          (words-part (λ w. 0 < w) (U .before ++ U .switch ∷ U .rest) τ p (U .above)) t′ H;
       table = is;
       names = ok;
       marks = λ b e. let q : _≡_ {A = ℕ} 0 1 = cc in absurd (omega arith);
@@ -233,27 +238,33 @@ module _ {n : ℕ} {pool bytes : List ℕ} {T : Table} (S : State n pool (some b
     -- from the switch on it is the changed one, whichever of the stores after it are made
     cut-since : (τ : List Store) → Part (U .rest) τ → State n (made (U .before ++ U .switch ∷ τ) pool) none (effect o T)
     cut-since τ p =
-        cut-holds (U .before ++ U .switch ∷ τ) (U .switches .after) (effect o T) (part-both (U .before) (U .switch ∷ U .rest) (U .switch ∷ τ) (kept p)) (U .switches .since τ p)
+        cut-holds (U .before ++ U .switch ∷ τ) (U .switches .after) (effect o T)
+        (part-both (U .before) (U .switch ∷ U .rest) (U .switch ∷ τ) (kept p)) (U .switches .since τ p)
         (U .switches .becomes .0) (effect-names o T (S .names))
 
     stores-are : planned o pool bytes .stores ≡ U .before ++ U .switch ∷ U .rest
     stores-are = ap (λ (d : Decided). d .stores) (U .plan)
 
-  pub cut-state : (o : Op) (z : planned o pool bytes .number ≡ 0) {τ : List Store} {b : Bool} → Loosely o (planned o pool bytes .stores) τ b → State n (made τ pool) none (pick b (effect o T) T)
+  pub cut-state : (o : Op) (z : planned o pool bytes .number ≡ 0) {τ : List Store} {b : Bool} → Loosely o (planned o pool bytes .stores) τ b
+      → State n (made τ pool) none (pick b (effect o T) T)
   cut-state o z {τ = τ} {b = b} c = go o z (planned o pool bytes .stores) τ b (turns o z .from) (stores-are o z) c
     where
-      go : (o : Op) (z : planned o pool bytes .number ≡ 0) (σ τ : List Store) (b : Bool) → From o (U o z .before) (U o z .rest) → σ ≡ U o z .before ++ U o z .switch ∷ U o z .rest → Loosely o σ τ b
+      go : (o : Op) (z : planned o pool bytes .number ≡ 0) (σ τ : List Store) (b : Bool) → From o (U o z .before) (U o z .rest)
+          → σ ≡ U o z .before ++ U o z .switch ∷ U o z .rest → Loosely o σ τ b
           → State n (made τ pool) none (pick b (effect o T) T)
       go (put k v h) z σ τ b f e (put-before p) =
-          cut-before (put k v h) z τ (subst (λ (l : List Store). Part l τ) (ap (λ (l : List Store). take (length l - 1) l) (e ∙ ap (λ (l : List Store). U (put k v h) z .before ++ U (put k v h) z .switch ∷ l) f) ∙ but-last (U (put k v h) z .before) (U (put k v h) z .switch)) p)
+          cut-before (put k v h) z τ (subst (λ (l : List Store). Part l τ)
+          (ap (λ (l : List Store). take (length l - 1) l) (e ∙ ap (λ (l : List Store). U (put k v h) z .before ++ U (put k v h) z .switch ∷ l) f) ∙ but-last (U (put k v h) z .before) (U (put k v h) z .switch)) p)
       go (put k v h) z σ τ b f e put-whole =
-          subst (λ (l : List Store). State n (made l pool) none (effect (put k v h) T)) (sym e) (cut-since (put k v h) z (U (put k v h) z .rest) (part-all (U (put k v h) z .rest)))
+          subst (λ (l : List Store). State n (made l pool) none (effect (put k v h) T)) (sym e)
+          (cut-since (put k v h) z (U (put k v h) z .rest) (part-all (U (put k v h) z .rest)))
       go (delete k h) z σ τ b f e delete-before = cut-before (delete k h) z [] (part-none (U (delete k h) z .before))
       go (delete k h) z σ τ b f e (delete-since {s = s} {σ = ρ} {τ = τ′} p) =
           let q : s ∷ ρ ≡ U (delete k h) z .switch ∷ U (delete k h) z .rest = e ∙ ap (λ (l : List Store). l ++ U (delete k h) z .switch ∷ U (delete k h) z .rest) f in
           let a : s ≡ U (delete k h) z .switch = cc in
           let r : ρ ≡ U (delete k h) z .rest = cc in
-          subst (λ (l : List Store). State n (made l pool) none (effect (delete k h) T)) (ap (λ (l : List Store). l ++ U (delete k h) z .switch ∷ τ′) f ∙ ap (λ (x : Store). x ∷ τ′) (sym a))
+          subst (λ (l : List Store). State n (made l pool) none (effect (delete k h) T))
+          (ap (λ (l : List Store). l ++ U (delete k h) z .switch ∷ τ′) f ∙ ap (λ (x : Store). x ∷ τ′) (sym a))
           (cut-since (delete k h) z τ′ (subst (λ (l : List Store). Part l τ′) r p))
 
 -- ---- the first stores of a plan are some of them
@@ -262,7 +273,9 @@ in-order-loosely {o = put k v h} {σ = σ} many (first n few) = go (same? n (len
   where
     go : Same? n (length σ) → Loosely (put k v h) σ (take n σ) (eqb n (length σ))
     go (same e q) = rw (q, take-all n σ (omega arith)) put-whole
-    go (other e q) = rw q (put-before (subst (λ (l : List Store). Part (take (length σ - 1) σ) l) (take-take n (length σ - 1) σ (omega arith)) (part-take n (take (length σ - 1) σ))))
+    go (other e q) =
+        rw q (put-before
+        (subst (λ (l : List Store). Part (take (length σ - 1) σ) l) (take-take n (length σ - 1) σ (omega arith)) (part-take n (take (length σ - 1) σ))))
 in-order-loosely {o = delete k h} {σ = []} many (first n few) = absurd (omega arith)
 in-order-loosely {o = delete k h} {σ = s ∷ σ} many (first zero few) = delete-before
 in-order-loosely {o = delete k h} {σ = s ∷ σ} many (first (suc n) few) = delete-since (part-take n σ)

@@ -88,13 +88,15 @@ pub state-reading : {n : ℕ} {pool bytes : List ℕ} {T : Table} → State n po
 state-reading {n = n} {pool = pool} {bytes = bytes} S = record {
   sound = state-sound S;
   names = S .names;
-  exact = subst (λ (m : ℕ). Exact pool m bytes) (sym (state-capacity S (state-sound S))) (marked-exact pool bytes n (S .t) (S .holds .held) (S .marks bytes refl));
+  exact = subst (λ (m : ℕ). Exact pool m bytes) (sym (state-capacity S (state-sound S)))
+      (marked-exact pool bytes n (S .t) (S .holds .held) (S .marks bytes refl));
   reads = state-reads S;
 }
 
 -- ---- from a reading to a state
 -- a pool of some capacity that holds a tree
-pub pool-is : (pool : List ℕ) (n : ℕ) (t : Tree ℕ) → capacityOf pool ≡ Holds n → Held 16 n (mem pool) t → (pos : 1 ≤ n) × (cap : n ≤ 1024) × Pool n pos cap t pool
+pub pool-is : (pool : List ℕ) (n : ℕ) (t : Tree ℕ) → capacityOf pool ≡ Holds n → Held 16 n (mem pool) t
+    → (pos : 1 ≤ n) × (cap : n ≤ 1024) × Pool n pos cap t pool
 unfolding capacityOf
 pool-is pool n t e H =
     let sized : Sized pool n = subst (Measured pool) e (size-fits pool (getD pool 0 0)) in

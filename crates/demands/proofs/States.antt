@@ -48,7 +48,8 @@ module _ {n : ℕ} {pool : List ℕ} {map : Option (List ℕ)} {T : Table} (S : 
   tree-names k v e = S .names k v (S .table k ∙ e)
 
   -- stores that leave a tree, to words of the pool other than word 0
-  pub stored : (τ : List Store) → Words (λ w. w < length pool) τ → Words (λ w. 0 < w) τ → (t′ : Tree ℕ) → Held 16 n (run τ (mem pool)) t′ → Pool n (S .pos) (S .cap) t′ (made τ pool)
+  pub stored : (τ : List Store) → Words (λ w. w < length pool) τ → Words (λ w. 0 < w) τ → (t′ : Tree ℕ) → Held 16 n (run τ (mem pool)) t′
+      → Pool n (S .pos) (S .cap) t′ (made τ pool)
   stored τ inside above t′ H = record {
     size = omega (arith, length-made τ pool, S .holds .size);
     first = made-off τ pool 0 (words-more (λ w. 0 < w) (λ w. 0 ≢ w) τ (λ w h z. omega arith) above) ∙ S .holds .first;

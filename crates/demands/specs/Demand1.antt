@@ -47,7 +47,8 @@ pub record Whole (numbers : List ℕ) (pool map : List ℕ) (number stores : ℕ
 
 pub record Demand1 : Type 0 where
   -- lookup: 0, 1, 2 or 3; "Refusals give 0 in every number field but lookup's node count", which is at most 16
-  pub lookup : (pool : List ℕ) (k : ℕ) → OneOf (0 ∷ 1 ∷ 2 ∷ 3 ∷ []) (lookupOf pool k .number) × ((lookupOf pool k .number ≡ 0 → ⊥) → lookupOf pool k .value ≡ 0) × (lookupOf pool k .nodes ≤ 16)
+  pub lookup : (pool : List ℕ) (k : ℕ)
+      → OneOf (0 ∷ 1 ∷ 2 ∷ 3 ∷ []) (lookupOf pool k .number) × ((lookupOf pool k .number ≡ 0 → ⊥) → lookupOf pool k .value ≡ 0) × (lookupOf pool k .nodes ≤ 16)
   -- listing: 0, 1, 2 or 6; 1 and 6 leave the buffers, 2 makes both all 0; "Entries beyond the count keep their contents"
   pub list : (pool : List ℕ) (from : ℕ) (ks vs : List ℕ) → OneOf (0 ∷ 1 ∷ 2 ∷ 6 ∷ []) (listOf pool from ks vs .answer .number)
   pub list-refused : (pool : List ℕ) (from : ℕ) (ks vs : List ℕ) → (listOf pool from ks vs .answer .number ≡ 0 → ⊥) → listOf pool from ks vs .answer .count ≡ 0
@@ -55,16 +56,20 @@ pub record Demand1 : Type 0 where
       → (listOf pool from ks vs .keys ≡ ks) × (listOf pool from ks vs .values ≡ vs)
   pub list-cleared : (pool : List ℕ) (from : ℕ) (ks vs : List ℕ) → listOf pool from ks vs .answer .number ≡ 2
       → (listOf pool from ks vs .keys ≡ replicate (length ks) 0) × (listOf pool from ks vs .values ≡ replicate (length vs) 0)
-  pub list-lengths : (pool : List ℕ) (from : ℕ) (ks vs : List ℕ) → (length (listOf pool from ks vs .keys) ≡ length ks) × (length (listOf pool from ks vs .values) ≡ length vs)
-  pub list-beyond : (pool : List ℕ) (from : ℕ) (ks vs : List ℕ) → listOf pool from ks vs .answer .number ≡ 0 → (i : ℕ) → listOf pool from ks vs .answer .count ≤ i
+  pub list-lengths : (pool : List ℕ) (from : ℕ) (ks vs : List ℕ)
+      → (length (listOf pool from ks vs .keys) ≡ length ks) × (length (listOf pool from ks vs .values) ≡ length vs)
+  pub list-beyond : (pool : List ℕ) (from : ℕ) (ks vs : List ℕ) → listOf pool from ks vs .answer .number ≡ 0 → (i : ℕ)
+      → listOf pool from ks vs .answer .count ≤ i
       → (wordAt (listOf pool from ks vs .keys) i ≡ wordAt ks i) × (wordAt (listOf pool from ks vs .values) i ≡ wordAt vs i)
   -- the planning calls
   pub plan-put : (pool map : List ℕ) (k v : ℕ) → Plans (0 ∷ 1 ∷ 2 ∷ 4 ∷ []) pool (putPlan pool map k v)
   pub plan-delete : (pool : List ℕ) (k : ℕ) → Plans (0 ∷ 1 ∷ 2 ∷ 3 ∷ []) pool (deletePlan pool k)
   pub plan-open : (pool : List ℕ) → Plans (0 ∷ 1 ∷ 2 ∷ []) pool (openPlan pool)
   -- the whole calls
-  pub put : (pool map : List ℕ) (k v : ℕ) → Whole (0 ∷ 1 ∷ 2 ∷ 4 ∷ []) pool map (putOf pool map k v .done .number) (putOf pool map k v .done .stores) (putOf pool map k v .pool) (putOf pool map k v .map)
-  pub delete : (pool map : List ℕ) (k : ℕ) → Whole (0 ∷ 1 ∷ 2 ∷ 3 ∷ []) pool map (deleteOf pool map k .done .number) (deleteOf pool map k .done .stores) (deleteOf pool map k .pool) (deleteOf pool map k .map)
+  pub put : (pool map : List ℕ) (k v : ℕ) → Whole (0 ∷ 1 ∷ 2 ∷ 4 ∷ []) pool map (putOf pool map k v .done .number) (putOf pool map k v .done .stores)
+      (putOf pool map k v .pool) (putOf pool map k v .map)
+  pub delete : (pool map : List ℕ) (k : ℕ) → Whole (0 ∷ 1 ∷ 2 ∷ 3 ∷ []) pool map (deleteOf pool map k .done .number)
+      (deleteOf pool map k .done .stores) (deleteOf pool map k .pool) (deleteOf pool map k .map)
   pub format : (pool map : List ℕ) (n : ℕ) → Whole (0 ∷ 1 ∷ []) pool map (formatOf pool map n .number) 0 (formatOf pool map n .pool) (formatOf pool map n .map)
   -- open: 0, 1 or 2; "2 | damage met | pool unchanged; open: map all 0"
   pub opening : (pool map : List ℕ) → OneOf (0 ∷ 1 ∷ 2 ∷ []) (openOf pool map .answer .number)
@@ -73,5 +78,6 @@ pub record Demand1 : Type 0 where
   pub opening-size : (pool map : List ℕ) → openOf pool map .answer .number ≡ 1 → openOf pool map .map ≡ map
   pub opening-damage : (pool map : List ℕ) → openOf pool map .answer .number ≡ 2 → openOf pool map .map ≡ replicate (length map) 0
   -- step and finish: 0 or 5, and 5 leaves everything unchanged
-  pub step : (p : Plan) (at : ℕ) (pool : List ℕ) → OneOf (0 ∷ 5 ∷ []) (stepOf p at pool .number) × (stepOf p at pool .number ≡ 5 → stepOf p at pool .left ≡ pool)
+  pub step : (p : Plan) (at : ℕ) (pool : List ℕ)
+      → OneOf (0 ∷ 5 ∷ []) (stepOf p at pool .number) × (stepOf p at pool .number ≡ 5 → stepOf p at pool .left ≡ pool)
   pub finish : (e : Effect) (map : List ℕ) → OneOf (0 ∷ 5 ∷ []) (finishOf e map .number) × (finishOf e map .number ≡ 5 → finishOf e map .left ≡ map)

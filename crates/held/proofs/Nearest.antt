@@ -84,7 +84,8 @@ near-empty k w q (node x b s kids) g f e =
     way-c : way dig 16 k (node x b s kids) ≡ c ∷ way dig 16 k (kids c)
     way-c = rw (lt-ltb b 16 (g .1))
 
-    go : (Filled (kids c) → sub (way dig 16 k (kids c)) (kids c) ≡ empty → LastNode k (kids c)) → (u : Bool) → filled (kids c) ≡ u → LastNode k (node x b s kids)
+    go : (Filled (kids c) → sub (way dig 16 k (kids c)) (kids c) ≡ empty → LastNode k (kids c)) → (u : Bool) → filled (kids c) ≡ u
+        → LastNode k (node x b s kids)
     go ih true u =
         let l : LastNode k (kids c) = ih (filled-is (kids c) u) on in
         record {

@@ -43,6 +43,7 @@ module _ (pool : List ℕ) (n key stop : ℕ) where
 
       go : walkFrom f pool n key stop (below n (x - n) b c s) ≡ wayEnd (below n (x - n) b c s) (kids c) → (u : Bool) → ltb b stop ≡ u
           → walkFrom (suc f) pool n key stop s
-          ≡ endAt n (spotAt n s (pick u (c ∷ way dig stop key (kids c)) []) (node x b k kids)) (sub (pick u (c ∷ way dig stop key (kids c)) []) (node x b k kids))
+          ≡ endAt n (spotAt n s (pick u (c ∷ way dig stop key (kids c)) []) (node x b k kids))
+          (sub (pick u (c ∷ way dig stop key (kids c)) []) (node x b k kids))
       go on true e = walk-goes pool n key stop f s (x - n) b (held-node pool n (s .depth) (wordAt pool (s .at)) x b k kids h) (ltb-true b stop e) ∙ on
       go on false e = walk-stops pool n key stop f s (x - n) b (held-node pool n (s .depth) (wordAt pool (s .at)) x b k kids h) (ltb-false b stop e)

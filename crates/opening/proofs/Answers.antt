@@ -73,7 +73,8 @@ module _ (pool : List ℕ) where
 
   first-few : (n : ℕ) (marks : List ℕ) → length (mendFirst pool n marks) ≤ 1
   first-few n marks =
-      pick-both (λ (σ : List Store). length σ ≤ 1) (ltb (firstStale pool n marks) (n - 1)) (at-most-one-store pool n (depthMarked marks n (firstStale pool n marks)) (firstStale pool n marks)) (omega arith)
+      pick-both (λ (σ : List Store). length σ ≤ 1) (ltb (firstStale pool n marks) (n - 1))
+      (at-most-one-store pool n (depthMarked marks n (firstStale pool n marks)) (firstStale pool n marks)) (omega arith)
 
   pub plan-modest : Modest pool (openPlan pool)
   unfolding openPlan Words
@@ -93,11 +94,13 @@ module _ (pool : List ℕ) where
 module _ (n : ℕ) (marks pool : List ℕ) where
   node-length : (j : ℕ) (v : Mended) → length (mendNode n marks j v .pool) ≡ length (v .pool)
   node-length j v =
-      pick-both (λ (u : Mended). length (u .pool) ≡ length (v .pool)) (stale (v .pool) n marks j) (length-made (mendOf (v .pool) n (depthMarked marks n j) j) (v .pool)) refl
+      pick-both (λ (u : Mended). length (u .pool) ≡ length (v .pool)) (stale (v .pool) n marks j)
+      (length-made (mendOf (v .pool) n (depthMarked marks n j) j) (v .pool)) refl
 
   node-few : (j : ℕ) (v : Mended) → mendNode n marks j v .headers ≤ v .headers + 1
   node-few j v =
-      pick-both (λ (u : Mended). u .headers ≤ v .headers + 1) (stale (v .pool) n marks j) (omega (arith, at-most-one-store (v .pool) n (depthMarked marks n j) j)) (omega arith)
+      pick-both (λ (u : Mended). u .headers ≤ v .headers + 1) (stale (v .pool) n marks j)
+      (omega (arith, at-most-one-store (v .pool) n (depthMarked marks n j) j)) (omega arith)
 
   pub mended-length : (i : ℕ) → length (mended n marks i pool .pool) ≡ length pool
   unfolding upto
@@ -129,7 +132,8 @@ module _ (pool bytes : List ℕ) where
   open-leaves = go (capacityOf pool) refl
     where
       at : (n : ℕ) → capacityOf pool ≡ Holds n → (t : Bool) → eqb (length bytes) (bytesOf n) ≡ t → (s : Bool) → surveyOf pool n .census .sound ≡ s
-          → Leaves pool bytes (pick t (pick s (restored n (surveyOf pool n .marks) pool) (left (opened 2 0 0) pool (replicate (length bytes) 0))) (left (opened 1 0 0) pool bytes))
+          → Leaves pool bytes (pick t (pick s (restored n (surveyOf pool n .marks) pool) (left (opened 2 0 0) pool (replicate (length bytes) 0)))
+          (left (opened 1 0 0) pool bytes))
       at n e true f true g = done n (record { size = e; long = eqb-true (length bytes) (bytesOf n) f; judged = g })
       at n e true f false g = damage n (record { size = e; long = eqb-true (length bytes) (bytesOf n) f; judged = g })
       at n e false f s g = size

@@ -63,14 +63,16 @@ unfolding scan
 scan-first zero i k test a b f t = absurd (omega arith)
 scan-first (suc m) i k test a b f t = go (scan-first m i (k + 1) test) (same? k i)
   where
-    go : (k + 1 ≤ i → i < k + 1 + m → ((j : ℕ) → k + 1 ≤ j → j < i → test j ≡ false) → test i ≡ true → scan m (k + 1) test ≡ i) → Same? k i → scan (suc m) k test ≡ i
+    go : (k + 1 ≤ i → i < k + 1 + m → ((j : ℕ) → k + 1 ≤ j → j < i → test j ≡ false) → test i ≡ true → scan m (k + 1) test ≡ i) → Same? k i
+        → scan (suc m) k test ≡ i
     go ih (same e p) = rw (ap test e ∙ t, scan) e
     go ih (other e p) = rw (f k (omega arith) (omega arith), scan) (ih (omega arith) (omega arith) (λ j x y. f j (omega arith) y) t)
 
 pub scan-nowhere : (m k : ℕ) (test : ℕ → Bool) → ((j : ℕ) → k ≤ j → j < k + m → test j ≡ false) → scan m k test ≡ k + m
 unfolding scan
 scan-nowhere zero k test f = omega arith
-scan-nowhere (suc m) k test f = rw (f k (omega arith) (omega arith), scan) (scan-nowhere m (k + 1) test (λ j x y. f j (omega arith) (omega arith)) ∙ omega arith)
+scan-nowhere (suc m) k test f =
+    rw (f k (omega arith) (omega arith), scan) (scan-nowhere m (k + 1) test (λ j x y. f j (omega arith) (omega arith)) ∙ omega arith)
 
 module _ (n : ℕ) (pos : 1 ≤ n) (cap : n ≤ 1024) (t : Tree ℕ) where
   -- the marks of the tree

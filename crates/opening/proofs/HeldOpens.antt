@@ -92,7 +92,8 @@ module _ (n : ℕ) (pos : 1 ≤ n) (cap : n ≤ 1024) (t : Tree ℕ) where
         go : (firstStale pool n marks < n - 1) ⊎ (n - 1 ≤ firstStale pool n marks) → Pool (made (mendFirst pool n marks) pool)
         go (inl l) =
             rw (lt-ltb (firstStale pool n marks) (n - 1) l)
-            (mended-pool (firstStale pool n marks) (omega arith) (stale-stands (firstStale pool n marks) (scan-true (stale pool n marks) (n - 1) 0 (omega arith))))
+            (mended-pool (firstStale pool n marks) (omega arith)
+            (stale-stands (firstStale pool n marks) (scan-true (stale pool n marks) (n - 1) 0 (omega arith))))
         go (inr l) = rw (le-ltb (firstStale pool n marks) (n - 1) l) P
 
     -- a node whose header says its walk depth is not stale
@@ -167,7 +168,8 @@ module _ (n : ℕ) (pos : 1 ≤ n) (cap : n ≤ 1024) (t : Tree ℕ) where
           up : (j : ℕ) → j + 1 < n → (S : NodeAt n pos cap t j) → (j ≡ i) ⊎ (j < i)
               → depthOf (headerAt (made (mendOf (v .pool) n (depthMarked marks n i) i) (v .pool)) n j) ≡ dep (S .π) 0 t
           up j jn S (inl z) =
-              ap (λ (l : List ℕ). depthOf (wordAt l (nodeWord n j))) set-is ∙ ap (λ (x : ℕ). depthOf (wordAt (set (v .pool) (nodeWord n i) new) (nodeWord n x))) z
+              ap (λ (l : List ℕ). depthOf (wordAt l (nodeWord n j))) set-is
+              ∙ ap (λ (x : ℕ). depthOf (wordAt (set (v .pool) (nodeWord n i) new) (nodeWord n x))) z
               ∙ ap depthOf (getD-set-same (v .pool) (nodeWord n i) new 0 (omega (arith, ih .pool .size)))
               ∙ mended-depth n pos cap t (v .pool) (ih .pool .size) (ih .pool .held) i in-pool Sᵢ
               ∙ sym (depth-is n pos cap t (v .pool) (ih .pool .size) (ih .pool .held) i in-pool Sᵢ) ∙ ap (depthMarked marks n) (sym z)
@@ -226,12 +228,14 @@ module _ (n : ℕ) (pos : 1 ≤ n) (cap : n ≤ 1024) (t : Tree ℕ) where
     -- as many keys as the tree has leaves
     pub keys-are : keysOf n marks ≡ leaves t
     keys-are =
-        tally-sum n (λ i. not (eqb (getD marks i 0) 0)) ∙ sum-same n (λ i. one (not (eqb (getD marks i 0) 0))) (λ i. mult i t) (λ i l. slot i l (less? 0 (mult i t)))
+        tally-sum n (λ i. not (eqb (getD marks i 0) 0))
+        ∙ sum-same n (λ i. one (not (eqb (getD marks i 0) 0))) (λ i. mult i t) (λ i l. slot i l (less? 0 (mult i t)))
         ∙ leaves-counted 16 n (mem p) t (P .held)
       where
         slot : (i : ℕ) → i < n → (0 < mult i t) ⊎ (mult i t ≤ 0) → one (not (eqb (getD marks i 0) 0)) ≡ mult i t
         slot i l (inl h) =
-            rw (ne-eqb (getD marks i 0) 0 (marks-on 0 i t (replicate (bytesOf n) 0) h (P .held .once i) (omega (arith, length-replicate {A = ℕ} (bytesOf n) 0))))
+            rw (ne-eqb (getD marks i 0) 0
+            (marks-on 0 i t (replicate (bytesOf n) 0) h (P .held .once i) (omega (arith, length-replicate {A = ℕ} (bytesOf n) 0))))
             (omega (arith, P .held .once i))
         slot i l (inr h) = rw (eq-eqb (getD marks i 0) 0 (marks-off 0 i t (replicate (bytesOf n) 0) (omega arith) ∙ zeros (bytesOf n) i)) (omega arith)
 

@@ -67,7 +67,8 @@ module _ (pool : List ℕ) (n : ℕ) where
     kids-marking j b g =
         let P : Gathered → Type 0 = λ x. Marking n (g .marks) (x .marks) in
         upto-keeps (kidOf go pool n j b) g P
-        (λ c x p. pick-both P (eqb (childAt pool n j c) 0) p (and-then p (marks (b + 1) (childAt pool n j c) (survey (x .marks) (x .sum .census))))) 0 16 (omega arith) none
+        (λ c x p. pick-both P (eqb (childAt pool n j c) 0) p (and-then p (marks (b + 1) (childAt pool n j c) (survey (x .marks) (x .sum .census))))) 0 16
+        (omega arith) none
 
     node-marking : (w j : ℕ) (v : Survey) → j + 1 < n → (h : Head) → Between w h → Marking n (v .marks) (nodeMet go pool n w j h v .marks)
     node-marking w j v l (Branch b) g =
@@ -76,12 +77,16 @@ module _ (pool : List ℕ) (n : ℕ) where
         kids : Gathered
         kids = upto 16 (kidOf go pool n j b) (gathered (set (v .marks) (n + j) (w + 1)) (gather (v .census) 0 false))
 
-        met : (t : Bool) → eqb (getD (v .marks) (n + j) 0) 0 ≡ t → Marking n (v .marks) (pick t (closed (headerAt pool n j) kids) (survey (v .marks) (census (v .census .last) false)) .marks)
-        met true e = node j w l (omega arith) (eqb-true (getD (v .marks) (n + j) 0) 0 e) (kids-marking j b (gathered (set (v .marks) (n + j) (w + 1)) (gather (v .census) 0 false)))
+        met : (t : Bool) → eqb (getD (v .marks) (n + j) 0) 0 ≡ t
+            → Marking n (v .marks) (pick t (closed (headerAt pool n j) kids) (survey (v .marks) (census (v .census .last) false)) .marks)
+        met true e =
+            node j w l (omega arith) (eqb-true (getD (v .marks) (n + j) 0) 0 e)
+            (kids-marking j b (gathered (set (v .marks) (n + j) (w + 1)) (gather (v .census) 0 false)))
         met false e = none
     node-marking w j v l Wrong g = none
 
-  ref-marking : (f w r : ℕ) (v : Survey) → ((j : ℕ) → j + 1 < n → Marking n (v .marks) (nodeFrom pool n f w j v .marks)) → Marking n (v .marks) (surveyFrom f pool n w r v .marks)
+  ref-marking : (f w r : ℕ) (v : Survey) → ((j : ℕ) → j + 1 < n → Marking n (v .marks) (nodeFrom pool n f w j v .marks))
+      → Marking n (v .marks) (surveyFrom f pool n w r v .marks)
   ref-marking f w r v below =
       rw (survey-turn pool n f w r v) (pick-both (λ (x : Survey). Marking n (v .marks) (x .marks)) (v .census .sound) (at (refOf n r) (within n r)) none)
     where
@@ -94,7 +99,8 @@ module _ (pool : List ℕ) (n : ℕ) where
   pub survey-marking : (f w r : ℕ) (v : Survey) → Marking n (v .marks) (surveyFrom f pool n w r v .marks)
   survey-marking zero w r v = ref-marking 0 w r v (λ j l. none)
   survey-marking (suc f) w r v =
-      ref-marking (suc f) w r v (λ j l. node-marking (surveyFrom f pool n) (survey-marking f) w j v l (headOf w (headerAt pool n j)) (between w (headerAt pool n j)))
+      ref-marking (suc f) w r v
+      (λ j l. node-marking (surveyFrom f pool n) (survey-marking f) w j v l (headOf w (headerAt pool n j)) (between w (headerAt pool n j)))
 
 -- ---- what a marking keeps and what it adds
 -- the marks stay as many
@@ -157,10 +163,12 @@ module _ (n : ℕ) (m : List ℕ) (long : length m ≡ bytesOf n) where
   leaf-more i l z = (
     tally-flip (marked m) (marked (set m i 1)) n i l (marked-before m i 1 (omega arith) z (omega arith)) (marked-after m i 1 (omega arith) z (omega arith))
         (λ k b. marked-else m i 1 (omega arith) z (omega arith) k),
-    sym (tally-same (λ j. marked m (n + j)) (λ j. marked (set m i 1) (n + j)) (n - 1) (λ j b. marked-else m i 1 (omega arith) z (omega arith) (n + j) (λ e. omega arith))),
+    sym (tally-same (λ j. marked m (n + j)) (λ j. marked (set m i 1) (n + j)) (n - 1)
+        (λ j b. marked-else m i 1 (omega arith) z (omega arith) (n + j) (λ e. omega arith))),
   )
 
-  node-more : (j w : ℕ) → j + 1 < n → getD m (n + j) 0 ≡ 0 → (keysOf n (set m (n + j) (w + 1)) ≡ keysOf n m) × (nodesOf n (set m (n + j) (w + 1)) ≡ nodesOf n m + 1)
+  node-more : (j w : ℕ) → j + 1 < n → getD m (n + j) 0 ≡ 0
+      → (keysOf n (set m (n + j) (w + 1)) ≡ keysOf n m) × (nodesOf n (set m (n + j) (w + 1)) ≡ nodesOf n m + 1)
   node-more j w l z =
       let x = n + j in
       let a = w + 1 in (
@@ -169,7 +177,8 @@ module _ (n : ℕ) (m : List ℕ) (long : length m ≡ bytesOf n) where
             (marked-after m x a (omega arith) z (omega arith)) (λ k b q. marked-else m x a (omega arith) z (omega arith) (n + k) (λ e. q (omega arith))),
       )
 
-pub marking-counts : {n : ℕ} {m m′ : List ℕ} (t : Marking n m m′) → length m ≡ bytesOf n → (keysOf n m′ ≡ keysOf n m + leaves t) × (nodesOf n m′ ≡ nodesOf n m + nodes t)
+pub marking-counts : {n : ℕ} {m m′ : List ℕ} (t : Marking n m m′) → length m ≡ bytesOf n
+    → (keysOf n m′ ≡ keysOf n m + leaves t) × (nodesOf n m′ ≡ nodesOf n m + nodes t)
 marking-counts none long = (omega arith, omega arith)
 marking-counts {n} {m} (leaf i l z t) long =
     let c = leaf-more n m long i l z in
@@ -208,7 +217,14 @@ module _ (pool : List ℕ) (n : ℕ) where
   few-leaves-met = omega (arith, leaves-met, tally-le (marked (surveyOf pool n .marks)) n)
 
   pub few-nodes-met : nodes slots-met ≤ n - 1
-  few-nodes-met = omega (arith, marking-counts slots-met (length-replicate (bytesOf n) 0), no-tally (λ j. n + j) (n - 1), tally-le (λ j. marked (surveyOf pool n .marks) (n + j)) (n - 1))
+  few-nodes-met =
+      omega (
+        arith,
+        marking-counts slots-met (length-replicate (bytesOf n) 0),
+        no-tally (λ j. n + j) (n - 1),
+        tally-le
+            (λ j. marked (surveyOf pool n .marks) (n + j)) (n - 1),
+      )
 
   -- a mark is at most 16
   pub survey-small : (i : ℕ) → getD (surveyOf pool n .marks) i 0 ≤ 16

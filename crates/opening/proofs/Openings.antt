@@ -44,7 +44,8 @@ changed-turn f [] i h = absurd (not-suc-le-zero h)
 changed-turn f (x ∷ l) zero h = refl
 changed-turn f (x ∷ l) (suc i) h = ap (λ (r : List ℕ). f x ∷ r) (changed-turn f l i (le-of-suc-le-suc h))
 
-pub changed-next : (f : ℕ → ℕ) (l : List ℕ) (i : ℕ) {m : List ℕ} {y : ℕ} → m ≡ changed f i l → i < length l → y ≡ f (getD m i 0) → set m i y ≡ changed f (i + 1) l
+pub changed-next : (f : ℕ → ℕ) (l : List ℕ) (i : ℕ) {m : List ℕ} {y : ℕ} → m ≡ changed f i l → i < length l → y ≡ f (getD m i 0)
+    → set m i y ≡ changed f (i + 1) l
 changed-next f l i e h q = rw (q, e, add-one i) (changed-turn f l i h)
 
 pub changed-all : (f : ℕ → ℕ) (l : List ℕ) → changed f (length l) l ≡ map f l
@@ -116,7 +117,8 @@ module _ (n : ℕ) (marks : List ℕ) (j : ℕ) (pool : List ℕ) {t : Bool} (is
     mend-undone e = rw (← is, not-false t needed, ← depth, ← e)
 
     pub mend-done : {x v k : ℕ} {p : Plan} {l : List ℕ} → record { word = nodeWord n j; value = v } ∷ [] ≡ mendOf pool n w j → nodeWord n j < length pool
-        → x ≡ nodeWord n j → p ≡ planOf (record { word = x; value = v } ∷ []) Nothing → after k l ≡ stepOf p 0 pool → mends l 1 ≡ mendNode n marks j (mends pool 0)
+        → x ≡ nodeWord n j → p ≡ planOf (record { word = x; value = v } ∷ []) Nothing → after k l ≡ stepOf p 0 pool
+        → mends l 1 ≡ mendNode n marks j (mends pool 0)
     unfolding made Words
     mend-done {v = v} {k = k} {l = l} e h y q a =
         let s : Store = record { word = nodeWord n j; value = v } in
@@ -145,7 +147,8 @@ module _ (n : ℕ) (marks pool : List ℕ) where
   unfolding upto
   mended-none = refl
 
-  pub mended-next : (j : ℕ) {p q : List ℕ} {h r : ℕ} → mends p h ≡ mended n marks j pool → mends q r ≡ mendNode n marks j (mends p 0) → mends q (h + r) ≡ mended n marks (j + 1) pool
+  pub mended-next : (j : ℕ) {p q : List ℕ} {h r : ℕ} → mends p h ≡ mended n marks j pool → mends q r ≡ mendNode n marks j (mends p 0)
+      → mends q (h + r) ≡ mended n marks (j + 1) pool
   mended-next j {p} {q} {h} {r} e f =
       sym (upto-turn (mendNode n marks) (mends pool 0) j ∙ ap (mendNode n marks j) (sym e) ∙ mend-on n marks j h p ∙ rw (← f))
 
@@ -180,7 +183,8 @@ module _ (pool : List ℕ) (n : ℕ) {m : List ℕ} {r : Bool} (told : Found m r
   pub plan-refused : not r ≡ true → plannedOf (refused 2) ≡ plannedOf (openJudged pool n (surveyOf pool n))
   plan-refused h = rw (judged (not-true r h))
 
-  pub plan-first : {p : Plan} → not r ≡ false → p ≡ planOf (mendFirst pool n m) Nothing → record { number = 0; plan = p } ≡ plannedOf (openJudged pool n (surveyOf pool n))
+  pub plan-first : {p : Plan} → not r ≡ false → p ≡ planOf (mendFirst pool n m) Nothing
+      → record { number = 0; plan = p } ≡ plannedOf (openJudged pool n (surveyOf pool n))
   plan-first h q =
       let e = judged (not-false r h) in
       rw (e, q, told .marked e)

@@ -28,7 +28,8 @@ followed-count p a vs e = ap (λ (q : Plan). q .count) e ∙ go p a vs
         omega arith
 
 -- one store more of a block
-block-next : (a : ℕ) (vs : List ℕ) (i : ℕ) → i < length vs → block a (take (suc i) vs) ≡ block a (take i vs) ++ record { word = a + i; value = getD vs i 0 } ∷ []
+block-next : (a : ℕ) (vs : List ℕ) (i : ℕ) → i < length vs
+    → block a (take (suc i) vs) ≡ block a (take i vs) ++ record { word = a + i; value = getD vs i 0 } ∷ []
 unfolding block
 block-next a [] i h = absurd (not-suc-le-zero h)
 block-next a (v ∷ vs) zero h = ap (λ (w : ℕ). record { word = w; value = v } ∷ []) (sym (add-zero a))

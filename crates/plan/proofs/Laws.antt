@@ -49,7 +49,8 @@ made-same (s ∷ σ) l m inside eq i =
     let l′ = set l (s .word) (s .value) in
     made-same σ l′ (upd m (s .word) (s .value))
     (words-more (λ w. w < length l) (λ w. w < length l′) σ (λ w h. lt-length-set l (s .word) (s .value) h) (inside .1))
-    (λ j. upd-case (λ d x. getD l′ d 0 ≡ x) m (s .word) (s .value) j (getD-set-same l (s .word) (s .value) 0 (inside .0)) (λ n. getD-set-other l (s .word) j (s .value) 0 n ∙ eq j))
+    (λ j. upd-case (λ d x. getD l′ d 0 ≡ x) m (s .word) (s .value) j (getD-set-same l (s .word) (s .value) 0 (inside .0))
+    (λ n. getD-set-other l (s .word) j (s .value) 0 n ∙ eq j))
     i
 
 pub made-run : (σ : List Store) (l : List ℕ) → Words (λ w. w < length l) σ → (i : ℕ) → getD (made σ l) i 0 ≡ run σ (λ j. getD l j 0) i
@@ -80,7 +81,8 @@ words-at P (s ∷ σ) zero h all = all .0
 words-at P (s ∷ σ) (suc i) h all = words-at P σ i (le-of-suc-le-suc h) (all .1)
 
 -- one store more
-pub made-next : (σ : List Store) (i : ℕ) (l : List ℕ) → i < length σ → made (take (i + 1) σ) l ≡ set (made (take i σ) l) (getD σ i unused .word) (getD σ i unused .value)
+pub made-next : (σ : List Store) (i : ℕ) (l : List ℕ) → i < length σ
+    → made (take (i + 1) σ) l ≡ set (made (take i σ) l) (getD σ i unused .word) (getD σ i unused .value)
 unfolding made
 made-next σ i l h = rw (add-one i, take-suc σ i unused h, made-append (take i σ) (getD σ i unused ∷ []) l)
 
@@ -93,7 +95,8 @@ step-either : (p : Plan) (i : ℕ) (l : List ℕ) → Stepped p i l (stepOf p i 
 unfolding stepOf
 step-either p i l = go (ltb 21 (p .count)) (leb (p .count) i) (ltb (getD (p .words) i 0) (length l))
   where
-    go : (a b c : Bool) → Stepped p i l (pick a (after 5 l) (pick b (after 5 l) (pick c (after 0 (set l (getD (p .words) i 0) (getD (p .values) i 0))) (after 5 l))))
+    go : (a b c : Bool)
+        → Stepped p i l (pick a (after 5 l) (pick b (after 5 l) (pick c (after 0 (set l (getD (p .words) i 0) (getD (p .values) i 0))) (after 5 l))))
     go true b c = inr refl
     go false true c = inr refl
     go false false true = inl refl
@@ -109,7 +112,8 @@ unfolding stepsFrom
 steps-suc n p i l e = ap (goneOn n p i l) e
 
 -- a step that was made leaves the steps after it
-pub steps-next : (p : Plan) (n i : ℕ) {r : ℕ} (l : List ℕ) {m : List ℕ} → i < n → r ≡ 0 → after r m ≡ stepOf p i l → stepsFrom (n - i) p i l ≡ stepsFrom (n - (i + 1)) p (i + 1) m
+pub steps-next : (p : Plan) (n i : ℕ) {r : ℕ} (l : List ℕ) {m : List ℕ} → i < n → r ≡ 0 → after r m ≡ stepOf p i l
+    → stepsFrom (n - i) p i l ≡ stepsFrom (n - (i + 1)) p (i + 1) m
 steps-next p n i l {m} h z a =
     let e : n - i ≡ suc (n - (i + 1)) = omega arith in
     rw e (steps-suc (n - (i + 1)) p i l (sym a ∙ ap (λ (k : ℕ). after k m) z))
@@ -119,7 +123,8 @@ pub steps-end : (p : Plan) (n i : ℕ) {r : ℕ} (l : List ℕ) {m : List ℕ} �
 steps-end p n i l {m} h z a =
     let e : n - i ≡ suc (n - (i + 1)) = omega arith in
     rw e
-    (⊎-elim (λ s. absurd (z (ap (λ (x : After). x .number) (a ∙ s)))) (λ s. steps-suc (n - (i + 1)) p i l s ∙ ap (λ (x : After). ran i (x .left)) (sym (a ∙ s))) (step-either p i l))
+    (⊎-elim (λ s. absurd (z (ap (λ (x : After). x .number) (a ∙ s))))
+    (λ s. steps-suc (n - (i + 1)) p i l s ∙ ap (λ (x : After). ran i (x .left)) (sym (a ∙ s))) (step-either p i l))
 
 -- no steps are left
 pub steps-none : (p : Plan) (n i : ℕ) (l : List ℕ) → n ≤ i → stepsFrom (n - i) p i l ≡ ran i l
@@ -156,17 +161,26 @@ module _ (σ : List Store) (e : Effect) (few : length σ ≤ 21) where
   step-past i pool h = rw (le-ltb 21 (length σ) few, le-leb (length σ) i h)
 
   -- a step makes its store
-  pub step-made : (pool : List ℕ) → Words (λ w. w < length pool) σ → (i : ℕ) → i < length σ → stepOf (planOf σ e) i pool ≡ after 0 (set pool (getD σ i unused .word) (getD σ i unused .value))
+  pub step-made : (pool : List ℕ) → Words (λ w. w < length pool) σ → (i : ℕ) → i < length σ
+      → stepOf (planOf σ e) i pool ≡ after 0 (set pool (getD σ i unused .word) (getD σ i unused .value))
   unfolding stepOf
   step-made pool inside i h =
-      rw (le-ltb 21 (length σ) few, lt-leb (length σ) i h, plan-word i, plan-value i, lt-ltb (getD σ i unused .word) (length pool) (words-at (λ w. w < length pool) σ i h inside))
+      rw (
+        le-ltb 21 (length σ) few,
+        lt-leb (length σ) i h,
+        plan-word i,
+        plan-value i,
+        lt-ltb (getD σ i unused .word) (length pool)
+            (words-at (λ w. w < length pool) σ i h inside),
+      )
 
   module _ (pool : List ℕ) (inside : Words (λ w. w < length pool) σ) where
     -- after the stores before it, a step makes the next
     pub step-after : (i : ℕ) → i < length σ → stepOf (planOf σ e) i (made (take i σ) pool) ≡ after 0 (made (take (i + 1) σ) pool)
     step-after i h =
         let l = made (take i σ) pool in
-        step-made l (words-more (λ w. w < length pool) (λ w. w < length l) σ (λ w b. omega (arith, length-made (take i σ) pool)) inside) i h ∙ ap (after 0) (sym (made-next σ i pool h))
+        step-made l (words-more (λ w. w < length pool) (λ w. w < length l) σ (λ w b. omega (arith, length-made (take i σ) pool)) inside) i h
+        ∙ ap (after 0) (sym (made-next σ i pool h))
 
     steps-made : (n i : ℕ) → i ≤ length σ → stepsFrom n (planOf σ e) i (made (take i σ) pool) ≡ ran (min (i + n) (length σ)) (made (take (i + n) σ) pool)
     unfolding stepsFrom
@@ -176,7 +190,8 @@ module _ (σ : List Store) (e : Effect) (few : length σ ≤ 21) where
         rw (z, a)
     steps-made (suc n) i h = go (steps-made n (i + 1)) (less? i (length σ))
       where
-        go : (i + 1 ≤ length σ → stepsFrom n (planOf σ e) (i + 1) (made (take (i + 1) σ) pool) ≡ ran (min (i + 1 + n) (length σ)) (made (take (i + 1 + n) σ) pool))
+        go : (i + 1 ≤ length σ → stepsFrom n (planOf σ e) (i + 1) (made (take (i + 1) σ) pool) ≡ ran (min (i + 1 + n) (length σ))
+            (made (take (i + 1 + n) σ) pool))
             → (i < length σ) ⊎ (length σ ≤ i)
             → stepsFrom (suc n) (planOf σ e) i (made (take i σ) pool) ≡ ran (min (i + suc n) (length σ)) (made (take (i + suc n) σ) pool)
         go ih (inl l) =
@@ -265,7 +280,8 @@ module _ (e : Effect) (bytes : List ℕ) where
   -- the bytes stay as many
   pub length-finish : length (finishOf e bytes .left) ≡ length bytes
   length-finish =
-      ⊎-elim (λ h. rw (h .1) (length-made (marks 1 (takes e)) (made (marks 0 (frees e)) bytes) ∙ length-made (marks 0 (frees e)) bytes)) (λ h. rw (h .1)) (finished e bytes)
+      ⊎-elim (λ h. rw (h .1) (length-made (marks 1 (takes e)) (made (marks 0 (frees e)) bytes) ∙ length-made (marks 0 (frees e)) bytes))
+      (λ h. rw (h .1)) (finished e bytes)
 
   -- where a named byte is outside, nothing changes
   pub finish-refused : (Inside e (length bytes) → ⊥) → finishOf e bytes ≡ after 5 bytes
@@ -284,16 +300,19 @@ module _ (e : Effect) (bytes : List ℕ) where
     finish-at x =
         let l = made (marks 0 (frees e)) bytes in
         rw finish-made
-        (marks-at 1 (takes e) l x (rw (length-made (marks 0 (frees e)) bytes) (inside .0)) ∙ ap (pick (has x (takes e)) 1) (marks-at 0 (frees e) bytes x (inside .1)))
+        (marks-at 1 (takes e) l x (rw (length-made (marks 0 (frees e)) bytes) (inside .0)) ∙ ap (pick (has x (takes e)) 1)
+        (marks-at 0 (frees e) bytes x (inside .1)))
 
 -- ---- each promise has one outcome
 after-unique : {a : After} {r r′ : ℕ} {l l′ : List ℕ} → after r l ≡ a → after r′ l′ ≡ a → (r ≡ r′) × (l ≡ l′)
 after-unique p q = (ap (λ (a : After). a .number) (p ∙ sym q), ap (λ (a : After). a .left) (p ∙ sym q))
 
-pub step-unique : (p : Plan) (i : ℕ) (pool : List ℕ) {r r′ : ℕ} {l l′ : List ℕ} → after r l ≡ stepOf p i pool → after r′ l′ ≡ stepOf p i pool → (r ≡ r′) × (l ≡ l′)
+pub step-unique : (p : Plan) (i : ℕ) (pool : List ℕ) {r r′ : ℕ} {l l′ : List ℕ} → after r l ≡ stepOf p i pool → after r′ l′ ≡ stepOf p i pool
+    → (r ≡ r′) × (l ≡ l′)
 step-unique p i pool = after-unique
 
-pub finish-unique : (e : Effect) (bytes : List ℕ) {r r′ : ℕ} {l l′ : List ℕ} → after r l ≡ finishOf e bytes → after r′ l′ ≡ finishOf e bytes → (r ≡ r′) × (l ≡ l′)
+pub finish-unique : (e : Effect) (bytes : List ℕ) {r r′ : ℕ} {l l′ : List ℕ} → after r l ≡ finishOf e bytes → after r′ l′ ≡ finishOf e bytes
+    → (r ≡ r′) × (l ≡ l′)
 finish-unique e bytes = after-unique
 
 pub run-unique : (n : ℕ) (p : Plan) (pool : List ℕ) {r r′ : ℕ} {l l′ : List ℕ} → ran r l ≡ runOf n p pool → ran r′ l′ ≡ runOf n p pool → (r ≡ r′) × (l ≡ l′)

@@ -10,4 +10,5 @@ use Rattle.plan.specs.declared.Plan.{Plan}
 unfoldable pub followed : Plan → List Store → Plan
 followed p [] = p
 followed p (s ∷ σ) =
-    followed (record { words = set (p .words) (p .count) (s .word); values = set (p .values) (p .count) (s .value); count = p .count + 1; effect = p .effect }) σ
+    followed
+    (record { words = set (p .words) (p .count) (s .word); values = set (p .values) (p .count) (s .value); count = p .count + 1; effect = p .effect }) σ

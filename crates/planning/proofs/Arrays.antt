@@ -32,7 +32,8 @@ tab-last zero f = refl
 tab-last (suc n) f = ap (λ (l : List ℕ). f 0 ∷ l) (tab-last n (λ i. f (suc i)))
 
 -- one turn of a loop that fills in f 0, f 1, .. behind l
-pub filled-on : (m : ℕ) (l : List ℕ) (f : ℕ → ℕ) (i : ℕ) {a : List ℕ} {x : ℕ} → length l + i < m → a ≡ filledTo m (l ++ tab i f) → x ≡ f i → set a (length l + i) x ≡ filledTo m (l ++ tab (i + 1) f)
+pub filled-on : (m : ℕ) (l : List ℕ) (f : ℕ → ℕ) (i : ℕ) {a : List ℕ} {x : ℕ} → length l + i < m → a ≡ filledTo m (l ++ tab i f) → x ≡ f i
+    → set a (length l + i) x ≡ filledTo m (l ++ tab (i + 1) f)
 filled-on m l f i h e g =
     let n : length (l ++ tab i f) ≡ length l + i = length-append l (tab i f) ∙ ap (λ (k : ℕ). length l + k) (length-tab i f) in
     rw (e, g, add-one i, tab-last i f, ← append-assoc l (tab i f) (f i ∷ []), ← n) (push-in m m (l ++ tab i f) (f i) (omega arith) (omega arith))

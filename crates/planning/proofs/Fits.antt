@@ -67,7 +67,8 @@ module _ {pool : List ℕ} {bytes : ℕ} {numbers counts : List ℕ} where
   unfolding Words
   refusal k h = record { inside = tt; few = omega arith; named = (tt, tt); answers = refuses k h refl }
 
-  either : (t : Bool) {a b : Decided} → (t ≡ true → Fits pool bytes numbers counts a) → (t ≡ false → Fits pool bytes numbers counts b) → Fits pool bytes numbers counts (pick t a b)
+  either : (t : Bool) {a b : Decided} → (t ≡ true → Fits pool bytes numbers counts a) → (t ≡ false → Fits pool bytes numbers counts b)
+      → Fits pool bytes numbers counts (pick t a b)
   either true f g = f refl
   either false f g = g refl
 
@@ -298,7 +299,8 @@ module _ {pool : List ℕ} {n : ℕ} (z : Sized pool n) where
   delete-at-fits k (AtLeaf s i) h =
       let at< : s .at < length pool = omega (arith, h .inside .at<) in
       either (eqb (keyAt pool i) k)
-      (λ e. either (eqb (s .nodes) 0) (λ e. emptied-fits (s .at) i at< (h .within)) (λ e. unlink-fits (h .inside .passed (eqb-false (s .nodes) 0 e)) i (h .within) at<))
+      (λ e. either (eqb (s .nodes) 0) (λ e. emptied-fits (s .at) i at< (h .within))
+      (λ e. unlink-fits (h .inside .passed (eqb-false (s .nodes) 0 e)) i (h .within) at<))
       (λ e. refusal 3 (hit deleteNumbers 3 tt))
   delete-at-fits k (AtEmpty s) h = refusal 3 (hit deleteNumbers 3 tt)
   delete-at-fits k (Stopped s j b) h = unmet

@@ -107,7 +107,8 @@ module _ (pool bytes : List ℕ) (n : ℕ) (pos : 1 ≤ n) (cap : n ≤ 1024) (t
       go : (z < n) ⊎ (n ≤ z) → PutIs pool n t k v (growOf bytes n k v at)
       go (inl l) =
           does (growing z k v at) (TakesLeaf z) (rw (lt-ltb z n l)) (law z l (leaf-free pool bytes n t pos H M l)) refl
-          (λ e. leaf-fewer pool bytes n t pos H M l) (words-append (λ w. 0 < w) (leafStores z k v) (store at (leafRef z) ∷ []) (block-above (leafWord z) (k ∷ v ∷ []) (omega arith)) (above, tt))
+          (λ e. leaf-fewer pool bytes n t pos H M l)
+          (words-append (λ w. 0 < w) (leafStores z k v) (store at (leafRef z) ∷ []) (block-above (leafWord z) (k ∷ v ∷ []) (omega arith)) (above, tt))
       go (inr l) = full (rw (le-ltb z n l)) new (all-held pool bytes n t pos H M l)
 
   -- ---- a key that is not found, beside the nearest
@@ -152,7 +153,8 @@ module _ (pool bytes : List ℕ) (n : ℕ) (pos : 1 ≤ n) (cap : n ≤ 1024) (t
     split-above : (z j : ℕ) (target : Target) → Words (λ w. 0 < w) (putStores (cleaving n cleft z j k v target))
     unfolding cleft Words
     split-above z j target =
-        split-all (λ w. 0 < w) n cleft z j k v (omega arith) (omega arith) (block-above (nodeWord n j) _ (omega arith)) (ref-above n 1 π t (omega arith)) target (header-above target)
+        split-all (λ w. 0 < w) n cleft z j k v (omega arith) (omega arith) (block-above (nodeWord n j) _ (omega arith))
+        (ref-above n 1 π t (omega arith)) target (header-above target)
 
     split-is : (target : Target)
         → ((z j : ℕ) → z < n → mult z t ≡ 0 → j + 1 < n → mult (n + j) t ≡ 0

@@ -59,7 +59,8 @@ module _ (test : ℕ → Bool) where
   scan-before zero i j l h = absurd (omega arith)
   scan-before (suc n) i j l h = go (scan-before n (i + 1) j) (test i) refl h (last? i j (omega arith))
     where
-      go : (i + 1 ≤ j → j < scan n (i + 1) test → test j ≡ false) → (t : Bool) → test i ≡ t → j < elim t [ true ↦ i | false ↦ scan n (i + 1) test ] → (i ≡ j) ⊎ (i < j) → test j ≡ false
+      go : (i + 1 ≤ j → j < scan n (i + 1) test → test j ≡ false) → (t : Bool) → test i ≡ t → j < elim t [ true ↦ i | false ↦ scan n (i + 1) test ]
+          → (i ≡ j) ⊎ (i < j) → test j ≡ false
       go ih true q h s = absurd (omega arith)
       go ih false q h (inl e) = rw (← e) q
       go ih false q h (inr l) = ih (omega arith) h

@@ -141,7 +141,8 @@ module _ (pool : List ℕ) (n k : ℕ) (s : Spot) where
     pub no-key-below : r ≡ NoKey → Leads n k (Refused 2) (λ map v. emptyPut pool map n k v s)
     no-key-below q = leads-refused (λ map v. rw (ne-eqb (s .nodes) 0 h, ← lowest, q))
 
-    pub key-below : {k2 : ℕ} {p : Place} → r ≡ Key k2 → Leads n k p (λ map v. besideOf pool map n k v (s .nodes) (s .at) k2) → Leads n k p (λ map v. emptyPut pool map n k v s)
+    pub key-below : {k2 : ℕ} {p : Place} → r ≡ Key k2 → Leads n k p (λ map v. besideOf pool map n k v (s .nodes) (s .at) k2)
+        → Leads n k p (λ map v. emptyPut pool map n k v s)
     key-below q b = record { able = b .able; plans = λ map v. rw (ne-eqb (s .nodes) 0 h, ← lowest, q) (b .plans map v) }
 
     -- the keys part where the last node branches: the second walk would stop before it
@@ -159,10 +160,12 @@ module _ (pool : List ℕ) (n k : ℕ) {e : End} (walks : e ≡ walkOf pool n k)
   ends-lead q b = record { able = b .able; plans = λ map v. rw (← walks, q) (b .plans map v) }
 
   -- what two matches leave
-  pub ends-damaged : OneOf (1 ∷ 2 ∷ 3 ∷ []) (tagOf the-type e) → OneOf (0 ∷ 2 ∷ 3 ∷ []) (tagOf the-type e) → Leads n k (Refused 2) (λ map v. putAt pool map n k v (walkOf pool n k))
+  pub ends-damaged : OneOf (1 ∷ 2 ∷ 3 ∷ []) (tagOf the-type e) → OneOf (0 ∷ 2 ∷ 3 ∷ []) (tagOf the-type e)
+      → Leads n k (Refused 2) (λ map v. putAt pool map n k v (walkOf pool n k))
   ends-damaged p q = leads-refused (λ map v. rw (← walks) (go map v e p q))
     where
-      go : (map : List ℕ) (v : ℕ) (e : End) → OneOf (1 ∷ 2 ∷ 3 ∷ []) (tagOf the-type e) → OneOf (0 ∷ 2 ∷ 3 ∷ []) (tagOf the-type e) → refused 2 ≡ putAt pool map n k v e
+      go : (map : List ℕ) (v : ℕ) (e : End) → OneOf (1 ∷ 2 ∷ 3 ∷ []) (tagOf the-type e) → OneOf (0 ∷ 2 ∷ 3 ∷ []) (tagOf the-type e)
+          → refused 2 ≡ putAt pool map n k v e
       go map v (AtLeaf s i) p q = absurd (miss (1 ∷ 2 ∷ 3 ∷ []) 0 tt p)
       go map v (AtEmpty s) p q = absurd (miss (0 ∷ 2 ∷ 3 ∷ []) 1 tt q)
       go map v (Stopped s j b) p q = refl
@@ -179,6 +182,7 @@ module _ (pool map : List ℕ) (k v : ℕ) {z : Size} (size : z ≡ capacityOf p
     unfolding putPlan
     put-unmapped h = rw (← size, holds, ne-eqb (length map) (bytesOf n) h)
 
-    pub put-placed : {p : Place} → length map ≡ bytesOf n → Leads n k p (λ map v. putAt pool map n k v (walkOf pool n k)) → planAt map n k v p ≡ putPlan pool map k v
+    pub put-placed : {p : Place} → length map ≡ bytesOf n → Leads n k p (λ map v. putAt pool map n k v (walkOf pool n k))
+        → planAt map n k v p ≡ putPlan pool map k v
     unfolding putPlan
     put-placed h b = rw (← size, holds, eq-eqb (length map) (bytesOf n) h) (b .plans map v)

@@ -64,7 +64,8 @@ module _ (n : ℕ) (ks vs : List ℕ) where
 
     -- one that is handed out
     bounded-handed : (key value : ℕ) → v .state .count < length (v .keys)
-        → Bounded n ks vs (visit (set (v .keys) (v .state .count) key) (set (v .values) (v .state .count) value) (state (v .state .count + 1) (v .state .met + 1) 0))
+        → Bounded n ks vs (visit (set (v .keys) (v .state .count) key) (set (v .values) (v .state .count) value)
+        (state (v .state .count + 1) (v .state .met + 1) 0))
     bounded-handed key value h =
         record {
           met≤ = omega arith;

@@ -81,7 +81,8 @@ module _ (pool : List ℕ) (n from : ℕ) where
       ∙ sym (visits-append n from (cat i (λ c. entries (kids c))) (entries (kids i)) v)
 
   -- so does their node: its header is accepted, and it is not childless
-  node-meets : (go : ℕ → ℕ → Visit → Visit) (w r x b s : ℕ) (q : ℕ → ℕ) (kids : ℕ → Tree ℕ) (v : Visit) → Shape.Holds (base 16 n) (mem pool) w r (node x b s kids)
+  node-meets : (go : ℕ → ℕ → Visit → Visit) (w r x b s : ℕ) (q : ℕ → ℕ) (kids : ℕ → Tree ℕ) (v : Visit)
+      → Shape.Holds (base 16 n) (mem pool) w r (node x b s kids)
       → Good dig 16 w q (node x b s kids) → ((c : ℕ) → c < 16 → (u : Visit) → go (b + 1) (childAt pool n (x - n) c) u ≡ visits n from (entries (kids c)) u)
       → nodeOf go pool n w (x - n) v ≡ visits n from (entries (node x b s kids)) v
   unfolding Good entries
@@ -228,7 +229,8 @@ found-word k v (leaf x k′ a) o e = go (same? k k′)
 found-word k v (node x b s kids) o e = found-word k v (kids (dig k b)) (o (dig k b) (digit-lt 16 k b)) e
 
 -- where every key that has a value is a word, every key of the tree is
-keys-named : (t : Tree ℕ) → Good dig 16 0 (λ i. 0) t → ((k v : ℕ) → find dig k t ≡ some v → Word k) → (u : Tree ℕ) (π : List ℕ) → Stands π u t → Keys dig 16 Word word-less u
+keys-named : (t : Tree ℕ) → Good dig 16 0 (λ i. 0) t → ((k v : ℕ) → find dig k t ≡ some v → Word k) → (u : Tree ℕ) (π : List ℕ) → Stands π u t
+    → Keys dig 16 Word word-less u
 unfolding Keys
 keys-named t g names empty π p = tt
 keys-named t g names (leaf x k v) π p = names k v (stands-found dig (digit-lt 16) 16 x k v π t g p)

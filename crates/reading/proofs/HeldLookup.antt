@@ -40,7 +40,8 @@ answered-finds none m = (refl, refl)
 
 module _ (pool : List ℕ) (n : ℕ) (t : Tree ℕ) (fits : capacityOf pool ≡ Holds n) (H : Held 16 n (mem pool) t) (k : ℕ) where
   -- what a walk finds that ends at s before the tree u
-  end-answers : (s : Spot) (u : Tree ℕ) (w r : ℕ) → Shape.Holds (base 16 n) (mem pool) w r u → NoNode u → foundAt pool k (endAt n s u) ≡ answered (find dig k u) (s .nodes)
+  end-answers : (s : Spot) (u : Tree ℕ) (w r : ℕ) → Shape.Holds (base 16 n) (mem pool) w r u → NoNode u
+      → foundAt pool k (endAt n s u) ≡ answered (find dig k u) (s .nodes)
   unfolding find
   end-answers s empty w r h o = refl
   end-answers s (leaf x k′ v) w r h o = go (same? k k′)
@@ -60,7 +61,8 @@ module _ (pool : List ℕ) (n : ℕ) (t : Tree ℕ) (fits : capacityOf pool ≡ 
       let on : On π t = way-on 16 k t in
       rw fits
       (ap (foundAt pool k) (walk-held pool n k 16 17 root (λ i. 0) t (H .holds) (H .good) (omega arith) (omega arith))
-      ∙ end-answers (spotAt n root π t) (sub π t) (dep π 0 t) (mem pool (refAt n 1 π t)) (sub-holds 16 n (mem pool) π 0 1 t on (H .holds)) (way-ends k 0 (λ i. 0) t (H .good))
+      ∙ end-answers (spotAt n root π t) (sub π t) (dep π 0 t) (mem pool (refAt n 1 π t)) (sub-holds 16 n (mem pool) π 0 1 t on (H .holds))
+      (way-ends k 0 (λ i. 0) t (H .good))
       ∙ ap (λ (o : Option ℕ). answered o (spotAt n root π t .nodes)) (sym (way-finds 16 k t))
       ∙ ap (answered (find dig k t)) (spot-nodes n root π t on ∙ zero-add (length π)))
 

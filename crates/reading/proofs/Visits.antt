@@ -121,14 +121,17 @@ module _ (pool : List ℕ) (n from : ℕ) where
   visit-bound-unseen zero g w r v a b = nodes-same 0 g w w r v (λ j e. node-end g w j v (omega arith))
   visit-bound-unseen (suc f) zero w r v a b = nodes-same (suc f) 0 w w r v (λ j e. sym (node-end (suc f) w j v (omega arith)))
   visit-bound-unseen (suc f) (suc g) w r v a b =
-      nodes-same (suc f) (suc g) w w r v (λ j e. node-same (visitFrom f pool n from) (visitFrom g pool n from) w j v (λ d x u l. visit-bound-unseen f g d x u (omega arith) (omega arith)))
+      nodes-same (suc f) (suc g) w w r v
+      (λ j e. node-same (visitFrom f pool n from) (visitFrom g pool n from) w j v (λ d x u l. visit-bound-unseen f g d x u (omega arith) (omega arith)))
 
   -- so a node's children are visited under the bound of the node
   pub visit-node : (f w r : ℕ) (v : Visit) {x : Ref} {j : ℕ} → 16 ≤ f → v .state .phase ≡ 0 → x ≡ refOf n r → x ≡ Node j
       → visitFrom f pool n from w r v ≡ nodeOf (visitFrom f pool n from) pool n w j v
   visit-node zero w r v l h e q = absurd (omega arith)
   visit-node (suc f) w r v {x} {j} l h e q =
-      visit-on (suc f) w r v h e q ∙ node-same (visitFrom f pool n from) (visitFrom (suc f) pool n from) w j v (λ d y u g. visit-bound-unseen f (suc f) d y u (omega arith) (omega arith))
+      visit-on (suc f) w r v h e q
+      ∙ node-same (visitFrom f pool n from) (visitFrom (suc f) pool n from) w j v
+      (λ d y u g. visit-bound-unseen f (suc f) d y u (omega arith) (omega arith))
 
   -- the visit of child m of node j, which branches at b
   abbrev pub kid : ℕ → ℕ → ℕ → Visit → Visit
@@ -169,7 +172,8 @@ module _ (pool : List ℕ) (n from : ℕ) where
     kids-skip : (i : ℕ) {c : ℕ} → c ≡ scan (16 - i) i (isChild pool n j) → upto i (kid b j) o ≡ upto c (kid b j) o
     kids-skip i e =
         let t = isChild pool n j in
-        rw e (upto-idle (kid b j) o i (scan (16 - i) i t) (scan-ge t (16 - i) i) (λ m p q. kid-empty b j m (upto i (kid b j) o) (scan-passes t (16 - i) i m p q)))
+        rw e
+        (upto-idle (kid b j) o i (scan (16 - i) i t) (scan-ge t (16 - i) i) (λ m p q. kid-empty b j m (upto i (kid b j) o) (scan-passes t (16 - i) i m p q)))
 
     pub kids-first : {c : ℕ} → c ≡ scan (16 - 0) 0 (isChild pool n j) → o ≡ upto c (kid b j) o
     unfolding upto
@@ -190,7 +194,8 @@ module _ (pool : List ℕ) (n from : ℕ) where
     kids-keep : (go : ℕ → ℕ → Visit → Visit) → ((d r : ℕ) (v : Visit) → P v → P (go d r v)) → (j : ℕ) (h : Head) (v : Visit) → P v
         → P (kidsOf go pool n j h v)
     kids-keep go k j (Branch b) v p =
-        pick-case P (eqb (childrenOf pool n j) 0) (λ e. damage v p) (λ e. upto-keeps P (λ c. go (b + 1) (childAt pool n j c)) (λ c u. k (b + 1) (childAt pool n j c) u) 16 v p)
+        pick-case P (eqb (childrenOf pool n j) 0) (λ e. damage v p)
+        (λ e. upto-keeps P (λ c. go (b + 1) (childAt pool n j c)) (λ c u. k (b + 1) (childAt pool n j c) u) 16 v p)
     kids-keep go k j Wrong v p = damage v p
 
     turn-keeps : (f w r : ℕ) (v : Visit) → ((j : ℕ) (u : Visit) → P u → P (nodeFrom f w j u)) → P v → P (visitFrom f pool n from w r v)

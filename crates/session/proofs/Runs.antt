@@ -18,7 +18,8 @@ use Rattle.session.specs.Bytes.{taken, Stream, onByte, onEnd, roomy, Goi
 
 -- a byte that was taken and whose turn was carried out
 pub byte-taken : (byte : ℕ) (s : Stream) (t : Taken) (line : List ℕ) (a : Acted) → taking t line ≡ taken byte (s .session)
-    → a ≡ turned (t .turn) (s .session .memory) (s .page) → record { session = record { reader = t .reader; line = line; memory = a .memory }; page = a .page } ≡ onByte byte s
+    → a ≡ turned (t .turn) (s .session .memory) (s .page)
+    → record { session = record { reader = t .reader; line = line; memory = a .memory }; page = a .page } ≡ onByte byte s
 byte-taken byte s t line a e h =
     rw h
     (ap (λ (u : Taking). record {
@@ -27,7 +28,8 @@ byte-taken byte s t line a e h =
     }) e)
 
 -- the end likewise
-pub end-taken : (s : Stream) (t : Taken) (a : Acted) → t ≡ endOf (s .session .reader) (s .session .line) → a ≡ turned (t .turn) (s .session .memory) (s .page) → a ≡ onEnd s
+pub end-taken : (s : Stream) (t : Taken) (a : Acted) → t ≡ endOf (s .session .reader) (s .session .line)
+    → a ≡ turned (t .turn) (s .session .memory) (s .page) → a ≡ onEnd s
 end-taken s t a e h = h ∙ ap (λ (u : Taken). turned (u .turn) (s .session .memory) (s .page)) e
 
 -- what is still to be run, after so many bytes

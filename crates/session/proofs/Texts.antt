@@ -52,7 +52,9 @@ end-short count = omega (arith, fields-short (count ∷ []) lineEnd)
 pub texts-append : (answers more : List Answer) → textsOf (answers ++ more) ≡ textsOf answers ++ textsOf more
 unfolding textsOf
 texts-append [] more = refl
-texts-append (a ∷ answers) more = ap (λ (t : List ℕ). textOf a ++ t) (texts-append answers more) ∙ sym (append-assoc (textOf a) (textsOf answers) (textsOf more))
+texts-append (a ∷ answers) more =
+    ap (λ (t : List ℕ). textOf a ++ t) (texts-append answers more)
+    ∙ sym (append-assoc (textOf a) (textsOf answers) (textsOf more))
 
 one-text : (a : Answer) → length (textsOf (a ∷ [])) ≡ length (textOf a)
 unfolding textsOf
@@ -87,7 +89,14 @@ list-short pool =
     let s : Shown = listOf pool 0 ks ks in
     let n : ℕ = min (s .answer .count) (min (length (s .keys)) (length (s .values))) in
     let few : length (s .keys) ≡ 256 = listed-few pool 0 ks ks s (list-answers pool 0 ks ks) ∙ length-replicate {A = ℕ} 256 0 in
-    omega (arith, more-text (entries n (s .keys) (s .values)) (print.End (s .answer .count)), end-short (s .answer .count), entries-short n (s .keys) (s .values), few)
+    omega (
+      arith,
+      more-text (entries n (s .keys) (s .values)) (print.End (s .answer .count)),
+      end-short (s .answer .count),
+      entries-short n (s .keys)
+          (s .values),
+      few,
+    )
 
 pub turn-short : (t : Turn) (m : Memory) → length (textsOf (answersOf t m)) ≤ most
 unfolding answersOf textsOf

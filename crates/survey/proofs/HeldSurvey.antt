@@ -68,7 +68,8 @@ zeros (suc i) (suc x) = zeros i x
 
 module _ (pool : List ℕ) (n : ℕ) where
   -- a sound survey meets what the reference means
-  meets : (w r : ℕ) (v : Survey) (f : ℕ) → v .census .sound ≡ true → {x : Ref} → refOf n r ≡ x → surveyFrom f pool n w r v ≡ refMet (meeting pool n f w) pool n x v
+  meets : (w r : ℕ) (v : Survey) (f : ℕ) → v .census .sound ≡ true → {x : Ref} → refOf n r ≡ x
+      → surveyFrom f pool n w r v ≡ refMet (meeting pool n f w) pool n x v
   meets w r v f on e = survey-meets pool n f w r v on ∙ ap (λ (y : Ref). refMet (meeting pool n f w) pool n y v) e
 
   -- a survey of a tree t at walk depth w, whose keys begin as q: sound, with the tree's marks, and a key of the tree the last
@@ -215,7 +216,8 @@ module _ (pool : List ℕ) (n : ℕ) where
       rw (le-ltb (childrenOf pool n (x - n)) 2 two, back, eq-eqb (getD (v .marks) x 0) 0 free)
       (closed-fits go w r x b s q kids h (g .1) (g .3) once fits v fresh on g)
 
-  leaf-fits : (w x k v₀ : ℕ) (q : ℕ → ℕ) (v : Survey) → Good dig 16 w q (leaf x k v₀) → Fresh (v .marks) (leaf x k v₀) → Fits w q (leaf x k v₀) v (leafMet x k v)
+  leaf-fits : (w x k v₀ : ℕ) (q : ℕ → ℕ) (v : Survey) → Good dig 16 w q (leaf x k v₀) → Fresh (v .marks) (leaf x k v₀)
+      → Fits w q (leaf x k v₀) v (leafMet x k v)
   unfolding Good mult leafMet marksOf
   leaf-fits w x k v₀ q v g fresh =
       rw (eq-eqb (getD (v .marks) x 0) 0 (fresh x (omega (arith, one-at x)))) (record { sound = refl; marks = refl; last = λ f. g })

@@ -66,5 +66,6 @@ module _ (d l key : ℕ) where
         (shl-exact (4 * s) (4 * (12 - s)) 64 (stored-lt 16 s d l key) (omega arith) ∙ sym (stored-cut s few))
 
     -- the whole word
-    pub packed-at-once : bitOr (bitOr (d * 2 ^ 56 % 2 ^ 64) (l * 2 ^ 48 % 2 ^ 64)) (key * 2 ^ (4 * d) % 2 ^ 64 / 2 ^ 16 / 2 ^ (4 * (12 - s)) * 2 ^ (4 * (12 - s)) % 2 ^ 64) ≡ headerOf d l key
+    pub packed-at-once : bitOr (bitOr (d * 2 ^ 56 % 2 ^ 64) (l * 2 ^ 48 % 2 ^ 64))
+        (key * 2 ^ (4 * d) % 2 ^ 64 / 2 ^ 16 / 2 ^ (4 * (12 - s)) * 2 ^ (4 * (12 - s)) % 2 ^ 64) ≡ headerOf d l key
     packed-at-once = packed 16 d l key _ (omega arith) (omega arith) shifted

@@ -67,7 +67,8 @@ unfolding headOf
 head-says w word b e = go (ltb (depthOf word) w) refl (ltb 15 (lengthOf word)) refl (ltb 15 (depthOf word + lengthOf word)) refl e
   where
     go : (x : Bool) → ltb (depthOf word) w ≡ x → (y : Bool) → ltb 15 (lengthOf word) ≡ y → (z : Bool) → ltb 15 (depthOf word + lengthOf word) ≡ z
-        → pick {A = Judged} x Wrong (pick {A = Judged} y Wrong (pick {A = Judged} z Wrong (Branch (depthOf word + lengthOf word)))) ≡ Branch b → HeadSays w word b
+        → pick {A = Judged} x Wrong (pick {A = Judged} y Wrong (pick {A = Judged} z Wrong (Branch (depthOf word + lengthOf word)))) ≡ Branch b
+        → HeadSays w word b
     go true ex y ey z ez h = let o : _≡_ {A = ℕ} 0 1 = cc in absurd (omega arith)
     go false ex true ey z ez h = let o : _≡_ {A = ℕ} 0 1 = cc in absurd (omega arith)
     go false ex false ey true ez h = let o : _≡_ {A = ℕ} 0 1 = cc in absurd (omega arith)

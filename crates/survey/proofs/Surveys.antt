@@ -35,11 +35,13 @@ module _ (pool : List ℕ) (n : ℕ) where
   survey-over f w r {v} h = survey-turn f w r v ∙ rw h
 
   -- one that has met none does what the reference says
-  pub survey-on : (f w r : ℕ) (v : Survey) {x y : Ref} → v .census .sound ≡ true → x ≡ refOf n r → x ≡ y → surveyFrom f pool n w r v ≡ refMet (nodeFrom f w) pool n y v
+  pub survey-on : (f w r : ℕ) (v : Survey) {x y : Ref} → v .census .sound ≡ true → x ≡ refOf n r → x ≡ y
+      → surveyFrom f pool n w r v ≡ refMet (nodeFrom f w) pool n y v
   survey-on f w r v h e q = survey-turn f w r v ∙ rw (h, ← e, q)
 
   -- surveys that treat a node alike are alike
-  nodes-same : (f g w u r : ℕ) (v : Survey) → ((j : ℕ) → refOf n r ≡ Node j → nodeFrom f w j v ≡ nodeFrom g u j v) → surveyFrom f pool n w r v ≡ surveyFrom g pool n u r v
+  nodes-same : (f g w u r : ℕ) (v : Survey) → ((j : ℕ) → refOf n r ≡ Node j → nodeFrom f w j v ≡ nodeFrom g u j v)
+      → surveyFrom f pool n w r v ≡ surveyFrom g pool n u r v
   nodes-same f g w u r v h =
       survey-turn f w r v ∙ ap (λ (z : Survey). pick (v .census .sound) z v) (go (refOf n r) refl) ∙ sym (survey-turn g u r v)
     where
@@ -73,12 +75,14 @@ module _ (pool : List ℕ) (n : ℕ) where
   survey-bound-unseen (suc f) zero w r v a b = nodes-same (suc f) 0 w w r v (λ j e. sym (node-end (suc f) w j v (omega arith)))
   survey-bound-unseen (suc f) (suc g) w r v a b =
       nodes-same (suc f) (suc g) w w r v (λ j e.
-      kids-same (surveyFrom f pool n) (surveyFrom g pool n) w j v (λ d x u l. survey-bound-unseen f g d x u (omega arith) (omega arith)) (headOf w (headerAt pool n j))
+      kids-same (surveyFrom f pool n) (surveyFrom g pool n) w j v (λ d x u l. survey-bound-unseen f g d x u (omega arith) (omega arith))
+      (headOf w (headerAt pool n j))
       (between w (headerAt pool n j)))
 
   -- so a node's children are surveyed under the bound of the node
   pub node-bound-unseen : (f w j : ℕ) (v : Survey) → 16 ≤ f → nodeFrom f w j v ≡ nodeMet (surveyFrom f pool n) pool n w j (headOf w (headerAt pool n j)) v
   node-bound-unseen zero w j v l = absurd (omega arith)
   node-bound-unseen (suc f) w j v l =
-      kids-same (surveyFrom f pool n) (surveyFrom (suc f) pool n) w j v (λ d x u g. survey-bound-unseen f (suc f) d x u (omega arith) (omega arith)) (headOf w (headerAt pool n j))
+      kids-same (surveyFrom f pool n) (surveyFrom (suc f) pool n) w j v (λ d x u g. survey-bound-unseen f (suc f) d x u (omega arith) (omega arith))
+      (headOf w (headerAt pool n j))
       (between w (headerAt pool n j))

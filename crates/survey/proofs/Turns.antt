@@ -109,7 +109,9 @@ module _ (pool : List ℕ) (n j b : ℕ) (m : List ℕ) where
 
   module _ (c : ℕ) (m′ : List ℕ) (g : Gather) (so : Kids c m′ g) {r : ℕ} (is : r ≡ childAt pool n j c) where
     kids-turn : (k : ℕ) → kids k (c + 1) ≡ kidOf (surveyFrom 17 pool n) pool n j b c (gathered m′ (seen k g))
-    kids-turn k = upto-turn (kidOf (surveyFrom 17 pool n) pool n j b) (gathered m (gather (census k true) 0 false)) c ∙ ap (kidOf (surveyFrom 17 pool n) pool n j b c) (so k)
+    kids-turn k =
+        upto-turn (kidOf (surveyFrom 17 pool n) pool n j b) (gathered m (gather (census k true) 0 false)) c
+        ∙ ap (kidOf (surveyFrom 17 pool n) pool n j b c) (so k)
 
     pub kids-empty : r ≡ 0 → Kids (c + 1) m′ g
     kids-empty e k = kids-turn k ∙ rw (← is, eq-eqb r 0 e)
@@ -149,7 +151,8 @@ module _ (pool : List ℕ) (n j b : ℕ) (m : List ℕ) where
 
   pub kids-stay-over : (k c : ℕ) → c ≤ 16 → Over (kids k c .sum .census) → Over (kids k 16 .sum .census)
   kids-stay-over k c l h =
-      upto-keeps (kidOf (surveyFrom 17 pool n) pool n j b) (gathered m (gather (census k true) 0 false)) (λ (x : Gathered). Over (x .sum .census)) kid-keeps c 16 l h
+      upto-keeps (kidOf (surveyFrom 17 pool n) pool n j b) (gathered m (gather (census k true) 0 false))
+      (λ (x : Gathered). Over (x .sum .census)) kid-keeps c 16 l h
 
   -- where the code stands before child c: the marks m′, what is gathered, and how many children there were
   pub record Joined (c : ℕ) (m′ : List ℕ) (g : Gather) (children : ℕ) : Type 0 where
@@ -176,7 +179,8 @@ module _ (pool : List ℕ) (n j b : ℕ) (m : List ℕ) where
           all = kids-empty c m′ g (so .all) is e;
         }
 
-    module _ (there : r ≡ 0 → ⊥) {m″ : List ℕ} {t : Census} (told : Gives (surveyFrom 17 pool n (b + 1) r) m′ (survey m″ t)) {g′ : Gather} (q : g′ ≡ joinOf b c g t) where
+    module _ (there : r ≡ 0 → ⊥) {m″ : List ℕ} {t : Census} (told : Gives (surveyFrom 17 pool n (b + 1) r) m′ (survey m″ t)) {g′ : Gather}
+        (q : g′ ≡ joinOf b c g t) where
       pub joined-child : not (g′ .census .sound) ≡ false → length m″ ≡ bytesOf n → Joined (c + 1) m″ g′ (children + 1)
       joined-child h k =
           record {
@@ -196,7 +200,8 @@ pub header-over : (word : ℕ) (g : Gather) → Over (g .census) → Over (headJ
 unfolding headJudged
 header-over word g h = pick-both Over (eqb (headerOf (depthOf word) (lengthOf word) (g .first)) word) h refl
 
-pub header-judged : (word first last : ℕ) {h : ℕ} → h ≡ headerOf (depthOf word) (lengthOf word) first → census last (eqb h word) ≡ headJudged word (gather (census last true) first true)
+pub header-judged : (word first last : ℕ) {h : ℕ} → h ≡ headerOf (depthOf word) (lengthOf word) first
+    → census last (eqb h word) ≡ headJudged word (gather (census last true) first true)
 unfolding headJudged
 header-judged word first last {h} e = rw (← e) (go (eqb h word))
   where
@@ -209,7 +214,8 @@ pub header-fits : (w word : ℕ) {h : Head} {b : ℕ} → h ≡ headOf w word �
 unfolding headOf
 header-fits w word {h} {b} e q = go (ltb (depthOf word) w) (ltb 15 (lengthOf word)) (ltb 15 (depthOf word + lengthOf word)) refl (sym e ∙ q)
   where
-    go : (t u v : Bool) → ltb 15 (depthOf word + lengthOf word) ≡ v → pick t Wrong (pick u Wrong (pick v Wrong (Branch (depthOf word + lengthOf word)))) ≡ Branch b → Accepted word
+    go : (t u v : Bool) → ltb 15 (depthOf word + lengthOf word) ≡ v
+        → pick t Wrong (pick u Wrong (pick v Wrong (Branch (depthOf word + lengthOf word)))) ≡ Branch b → Accepted word
     go true u v f x = let o : _≡_ {A = ℕ} 0 1 = cc in absurd (omega arith)
     go false true v f x = let o : _≡_ {A = ℕ} 0 1 = cc in absurd (omega arith)
     go false false true f x = let o : _≡_ {A = ℕ} 0 1 = cc in absurd (omega arith)
@@ -226,7 +232,8 @@ module _ (pool : List ℕ) (n w j : ℕ) (m : List ℕ) {word : ℕ} {h : Head} 
   module _ (b : ℕ) (e : h ≡ Branch b) where
     pub node-again : (s : Census) → (getD m (n + j) 0 ≡ 0 → ⊥) → Over s → Gives node m (survey m s)
     node-again s z p =
-        gives-over node m m s p (λ k. rw (← there, ← is, e, ne-eqb (getD m (n + j) 0) 0 z) (pick-both (λ (v : Survey). Over (v .census)) (ltb (childrenOf pool n j) 2) refl refl))
+        gives-over node m m s p
+        (λ k. rw (← there, ← is, e, ne-eqb (getD m (n + j) 0) 0 z) (pick-both (λ (v : Survey). Over (v .census)) (ltb (childrenOf pool n j) 2) refl refl))
 
     pub node-few : (m′ : List ℕ) (s : Census) {children : ℕ} → children ≡ childrenOf pool n j → children < 2 → Over s → Gives node m (survey m′ s)
     node-few m′ s q l p = gives-over node m m′ s p (λ k. rw (← there, ← is, e, ← q, lt-ltb _ 2 l))
@@ -244,14 +251,16 @@ module _ (pool : List ℕ) (n w j : ℕ) (m : List ℕ) {word : ℕ} {h : Head} 
       pub node-judged : {m′ : List ℕ} {g : Gather} {s : Census} {children : ℕ} → Joined pool n j b own 16 m′ g children → 2 ≤ children
           → s ≡ headJudged word (gather (census (g .census .last) true) (g .first) true) → Gives node m (survey m′ s)
       node-judged {children = children} so l p k =
-          alike-same (rw (p, ← there, ← is, e, eq-eqb (getD m (n + j) 0) 0 first, ← so .counted, le-ltb children 2 l, so .all k, so .some (omega arith), ← there))
+          alike-same
+          (rw (p, ← there, ← is, e, eq-eqb (getD m (n + j) 0) 0 first, ← so .counted, le-ltb children 2 l, so .all k, so .some (omega arith), ← there))
 
 -- ---- a reference, by what `reference` told
 only-0-empty : (n r : ℕ) → refOf n r ≡ Empty → r ≡ 0
 unfolding refOf
 only-0-empty n r h = go (eqb r 0) refl (leb r 1024) (ltb (r - 1) n) (leb r 2047) (ltb (r - 1025 + 1) n) h
   where
-    go : (a : Bool) → eqb r 0 ≡ a → (b c d e : Bool) → pick a Empty (pick b (pick c (Leaf (r - 1)) Bad) (pick d (pick e (Node (r - 1025)) Bad) Bad)) ≡ Empty → r ≡ 0
+    go : (a : Bool) → eqb r 0 ≡ a → (b c d e : Bool)
+        → pick a Empty (pick b (pick c (Leaf (r - 1)) Bad) (pick d (pick e (Node (r - 1025)) Bad) Bad)) ≡ Empty → r ≡ 0
     go true q b c d e h = eqb-true r 0 q
     go false q true true d e h = cc
     go false q true false d e h = cc
@@ -266,8 +275,11 @@ module _ (pool : List ℕ) (n w r : ℕ) (m : List ℕ) {x : Ref} (is : x ≡ re
   pub ref-leaf : {i key : ℕ} {v : Survey} → x ≡ Leaf i → key ≡ keyAt pool i → Gives (leafMet i key) m v → Gives (surveyFrom 17 pool n w r) m v
   ref-leaf e q g k = rw (survey-on pool n 17 w r (survey m (census k true)) refl is e, ← q) (g k)
 
-  pub ref-node : {j : ℕ} {v : Survey} → x ≡ Node j → Gives (nodeMet (surveyFrom 17 pool n) pool n w j (headOf w (headerAt pool n j))) m v → Gives (surveyFrom 17 pool n w r) m v
-  ref-node {j} e g k = rw (survey-on pool n 17 w r (survey m (census k true)) refl is e, node-bound-unseen pool n 17 w j (survey m (census k true)) (omega arith)) (g k)
+  pub ref-node : {j : ℕ} {v : Survey} → x ≡ Node j → Gives (nodeMet (surveyFrom 17 pool n) pool n w j (headOf w (headerAt pool n j))) m v
+      → Gives (surveyFrom 17 pool n w r) m v
+  ref-node {j} e g k =
+      rw (survey-on pool n 17 w r (survey m (census k true)) refl is e, node-bound-unseen pool n 17 w j (survey m (census k true)) (omega arith))
+      (g k)
 
   pub ref-bad : (s : Census) → x ≡ Bad → Over s → Gives (surveyFrom 17 pool n w r) m (survey m s)
   ref-bad s e p = gives-over (surveyFrom 17 pool n w r) m m s p (λ k. rw (survey-on pool n 17 w r (survey m (census k true)) refl is e))
@@ -282,4 +294,6 @@ module _ (pool : List ℕ) (n : ℕ) {m : List ℕ} (none : m ≡ replicate (byt
 
   pub found-none : {x : Ref} → x ≡ refOf n (wordAt pool 1) → x ≡ Empty → Found m true (surveyOf pool n)
   unfolding surveyOf
-  found-none is e = rw (none, survey-on pool n 17 0 (wordAt pool 1) (survey (replicate (bytesOf n) 0) (census 0 true)) refl is e) (record { judged = refl; marked = λ h. refl })
+  found-none is e =
+      rw (none, survey-on pool n 17 0 (wordAt pool 1) (survey (replicate (bytesOf n) 0) (census 0 true)) refl is e)
+      (record { judged = refl; marked = λ h. refl })

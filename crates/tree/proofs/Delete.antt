@@ -70,7 +70,8 @@ module _ (dig : ℕ → ℕ → ℕ) (dl : (k i : ℕ) → dig k i < 16) (D : �
           record {
             gone = λ k leads.
                 let a : Agree dig (b + 1) (upd (dig s) b c) k = rw (C .dep-is 0, C .pre-is (λ i. 0)) at leads in
-                find-there dig D ρ 0 (λ i. 0) t (kids o) k (p .on) good (agree-up dig (dep ρ 0 t) b c s (pre dig ρ (λ i. 0) t) k (node-good .0) (node-good .2) a)
+                find-there dig D ρ 0 (λ i. 0) t (kids o) k (p .on) good
+                (agree-up dig (dep ρ 0 t) b c s (pre dig ρ (λ i. 0) t) k (node-good .0) (node-good .2) a)
                 ∙ off k (λ z. apart (sym (a b (omega arith) ∙ upd-at (dig s) b c) ∙ z));
             others = λ k e.
                 find-keeps dig ρ t (kids o) k (p .on)
@@ -87,7 +88,8 @@ module _ (dig : ℕ → ℕ → ℕ) (dl : (k i : ℕ) → dig k i < 16) (D : �
 
   -- ---- keys
   -- a key that does not lead to the place is as it was
-  pub elsewhere-kept : (π : List ℕ) (over : List ℕ) (t′ : Tree A) → On π t → Clears dig π over t t′ → (k : ℕ) → (Leads dig π t k → ⊥) → find dig k t′ ≡ find dig k t
+  pub elsewhere-kept : (π : List ℕ) (over : List ℕ) (t′ : Tree A) → On π t → Clears dig π over t t′ → (k : ℕ) → (Leads dig π t k → ⊥)
+      → find dig k t′ ≡ find dig k t
   elsewhere-kept π over t′ on cl k n = cl .others k (go (find dig k (sub π t)) refl)
     where
       go : (r : Option A) → find dig k (sub π t) ≡ r → find dig k (sub π t) ≡ none
@@ -95,7 +97,8 @@ module _ (dig : ℕ → ℕ → ℕ) (dl : (k i : ℕ) → dig k i < 16) (D : �
       go (some v) e = absurd (n (found-agrees dig D dl (dep π 0 t) (pre dig π (λ i. 0) t) (sub π t) k v (good-sub dig D π 0 (λ i. 0) t on good) e))
 
   -- a leaf dropped is its key removed
-  pub leaf-removed : (π : List ℕ) (over : List ℕ) (t′ : Tree A) (x k : ℕ) (v : A) → Stands π (leaf x k v) t → Clears dig π over t t′ → Removes dig k (x ∷ over) t t′
+  pub leaf-removed : (π : List ℕ) (over : List ℕ) (t′ : Tree A) (x k : ℕ) (v : A) → Stands π (leaf x k v) t → Clears dig π over t t′
+      → Removes dig k (x ∷ over) t t′
   unfolding Good find mult occurs
   leaf-removed π over t′ x k v p cl = record {
     gone = cl .gone k (subst (GoodAt dig D π t) (p .is) (good-sub dig D π 0 (λ i. 0) t (p .on) good));

@@ -79,7 +79,8 @@ module _ {A : Type 0} where
     unfolding cat Rising
     rising-cat zero f u r = tt
     rising-cat (suc n) f u r =
-        rising-append (λ e. (c : ℕ) × (c < n) × U c e) (cat n f) (f n) (rising-cat n f (λ c l. u c (omega arith)) (λ c l. r c (omega arith))) (r n (omega arith))
+        rising-append (λ e. (c : ℕ) × (c < n) × U c e) (cat n f) (f n) (rising-cat n f (λ c l. u c (omega arith)) (λ c l. r c (omega arith)))
+        (r n (omega arith))
         (cat-every (λ e. (c : ℕ) × (c < n) × U c e) n f (λ c l. every-more (U c) (λ e. (c : ℕ) × (c < n) × U c e) (f c) (λ e g. (c, l, g)) (u c (omega arith))))
         (λ e g. every-more (U n) (λ e′. e .key < e′ .key) (f n) (λ e′ g′. less (g .0) n e e′ (g .1) (g .2) g′) (u n (omega arith)))
 

@@ -16,7 +16,8 @@ use Rattle.tree.proofs.Near.{scan-same, lowest, low-agrees}
 
 module _ {A : Type 0} (S : Shape A) (L : Lawful S) (dig : ℕ → ℕ → ℕ) (dl : (k i : ℕ) → dig k i < 16) (D : ℕ) (m : Mem) where
   -- one reference leads to one lowest leaf, whichever tree it is said to hold
-  pub low-decided : (w w′ r : ℕ) (q : ℕ → ℕ) (t t′ : Tree A) → Holds S m w r t → Holds S m w′ r t′ → Good dig D w q t → (filled t ≡ filled t′) × (low t ≡ low t′)
+  pub low-decided : (w w′ r : ℕ) (q : ℕ → ℕ) (t t′ : Tree A) → Holds S m w r t → Holds S m w′ r t′ → Good dig D w q t
+      → (filled t ≡ filled t′) × (low t ≡ low t′)
   unfolding Holds low Good
   low-decided w w′ r q empty empty h h′ g = (refl, refl)
   low-decided w w′ r q empty (leaf x k v) h h′ g = (cc, cc)

@@ -173,7 +173,8 @@ module _ {pool : List ℕ} {n key : ℕ} {t : Spot} where
         nodes≡ = ap (λ (u : Spot). u .nodes) e;
       }
 
-  last-further : {s : Spot} {j b : ℕ} → Accepted pool n (s .depth) (wordAt pool (s .at)) j b → Last pool n key (below n j b (digitOf key b) s) t → Last pool n key s t
+  last-further : {s : Spot} {j b : ℕ} → Accepted pool n (s .depth) (wordAt pool (s .at)) j b → Last pool n key (below n j b (digitOf key b) s) t
+      → Last pool n key s t
   last-further {s} {j} {b} a l =
       record {
         spot = l .spot;

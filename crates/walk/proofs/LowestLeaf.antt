@@ -49,7 +49,8 @@ module _ (pool : List ℕ) (n : ℕ) where
             elim (decLt (lowestChild pool n j) 16) [
               | yes u ↦
                   lowest-goes f w r j b a u
-                  ∙ lowest-bound-unseen f g (b + 1) (childAt pool n j (lowestChild pool n j)) (omega (arith, a .b<)) (omega (arith, a .w≤b)) (omega (arith, a .w≤b))
+                  ∙ lowest-bound-unseen f g (b + 1) (childAt pool n j (lowestChild pool n j)) (omega (arith, a .b<)) (omega (arith, a .w≤b))
+                  (omega (arith, a .w≤b))
                   ∙ sym (lowest-goes g w r j b a u)
               | no u ↦ lowest-childless f w r j b a (omega arith) ∙ sym (lowest-childless g w r j b a (omega arith))
             ]

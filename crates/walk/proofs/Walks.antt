@@ -23,7 +23,8 @@ pub data Walks (pool : List ℕ) (n key stop : ℕ) : Spot → End → Type 0 wh
   ends : {s : Spot} {e : End} (r : Ref) → refOf n (wordAt pool (s .at)) ≡ r → Within n r → NoNode r → e ≡ endOf s r → Walks pool n key stop s e
   damaged : {s : Spot} {e : End} (j : ℕ) → Refused pool n (s .depth) (wordAt pool (s .at)) j → e ≡ Damaged (s .nodes) → Walks pool n key stop s e
   stops : {s : Spot} {e : End} (j b : ℕ) → Accepted pool n (s .depth) (wordAt pool (s .at)) j b → stop ≤ b → e ≡ Stopped s j b → Walks pool n key stop s e
-  goes : {s : Spot} {e : End} (j b : ℕ) → Accepted pool n (s .depth) (wordAt pool (s .at)) j b → b < stop → Walks pool n key stop (below n j b (digitOf key b) s) e
+  goes : {s : Spot} {e : End} (j b : ℕ) → Accepted pool n (s .depth) (wordAt pool (s .at)) j b → b < stop
+      → Walks pool n key stop (below n j b (digitOf key b) s) e
       → Walks pool n key stop s e
 
 module _ (pool : List ℕ) (n key stop : ℕ) where
@@ -39,7 +40,8 @@ module _ (pool : List ℕ) (n key stop : ℕ) where
   unfolding walkFrom
   walk-damaged f s j a = rw (a .refers, a .head, walkFrom)
 
-  pub walk-stops : (f : ℕ) (s : Spot) (j b : ℕ) → Accepted pool n (s .depth) (wordAt pool (s .at)) j b → stop ≤ b → walkFrom (suc f) pool n key stop s ≡ Stopped s j b
+  pub walk-stops : (f : ℕ) (s : Spot) (j b : ℕ) → Accepted pool n (s .depth) (wordAt pool (s .at)) j b → stop ≤ b
+      → walkFrom (suc f) pool n key stop s ≡ Stopped s j b
   unfolding walkFrom
   walk-stops f s j b a l = rw (a .refers, a .head, le-leb stop b l, walkFrom)
 
@@ -57,7 +59,8 @@ module _ (pool : List ℕ) (n key stop : ℕ) where
         | wrong j a ↦ damaged j a (walk-damaged f s j a)
         | node j b a ↦
             elim (decLt b stop) [
-              | yes l ↦ rw (walk-goes f s j b a l) (goes j b a l (walk-has-end f (below n j b (digitOf key b) s) (omega (arith, a .b<)) (omega (arith, a .w≤b))))
+              | yes l ↦ rw (walk-goes f s j b a l)
+                  (goes j b a l (walk-has-end f (below n j b (digitOf key b) s) (omega (arith, a .b<)) (omega (arith, a .w≤b))))
               | no g ↦ stops j b a (omega arith) (walk-stops f s j b a (omega arith))
             ]
       ]
@@ -71,7 +74,8 @@ module _ (pool : List ℕ) (n key stop : ℕ) where
   walk-one-end {s} (goes j b a l w) (suc f) d g = walk-one-end w f (omega (arith, a .b<)) (omega (arith, a .w≤b)) ∙ sym (walk-goes f s j b a l)
 
   -- so the bound is not seen
-  pub walk-bound-unseen : (f g : ℕ) (s : Spot) → s .depth ≤ 16 → 17 ≤ f + s .depth → 17 ≤ g + s .depth → walkFrom f pool n key stop s ≡ walkFrom g pool n key stop s
+  pub walk-bound-unseen : (f g : ℕ) (s : Spot) → s .depth ≤ 16 → 17 ≤ f + s .depth → 17 ≤ g + s .depth
+      → walkFrom f pool n key stop s ≡ walkFrom g pool n key stop s
   walk-bound-unseen f g s d h l = walk-one-end (walk-has-end f s d h) g d l
 
   -- past a node that does not stop it the walk is the same

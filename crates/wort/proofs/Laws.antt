@@ -35,7 +35,8 @@ copied-all : (n : ℕ) (s d : List ℕ) → length d ≤ n → copied n s d ≡ 
 copied-all n s d h = rw (drop-of-length-le d h) (append-nil _)
 
 -- a word read at n + i, n places on, is the next to be copied
-pub taken-next : (n i : ℕ) (p d : List ℕ) → n + length d ≤ length p → i < length d → set (copied i (drop n p) d) i (getD p (n + i) 0) ≡ copied (i + 1) (drop n p) d
+pub taken-next : (n i : ℕ) (p d : List ℕ) → n + length d ≤ length p → i < length d
+    → set (copied i (drop n p) d) i (getD p (n + i) 0) ≡ copied (i + 1) (drop n p) d
 taken-next n i p d room h = rw (← getD-drop n p i 0) (copied-next i (drop n p) d (simp length-drop (omega arith)) h)
 
 -- once 21 are read into 21 places, they are the 21 words from n on
@@ -89,7 +90,8 @@ three (FreesLeaf a) = refl
 three (FreesBoth a b) = refl
 
 -- the count and the effect stored, and then the stores, make the plan's words
-pub laid-out : (p q r : List ℕ) (w : Plan) → q ≡ sets (set p 0 (w .count)) 1 (effectWords (w .effect)) → length q ≡ 46 → r ≡ take 4 q ++ w .words ++ w .values → r ≡ wordsOf w
+pub laid-out : (p q r : List ℕ) (w : Plan) → q ≡ sets (set p 0 (w .count)) 1 (effectWords (w .effect)) → length q ≡ 46
+    → r ≡ take 4 q ++ w .words ++ w .values → r ≡ wordsOf w
 laid-out p q r w laid full stores =
     let head : List ℕ = w .count ∷ effectWords (w .effect) in
     let long : length p ≡ 46 = sym (length-set p 0 (w .count)) ∙ sym (length-sets (set p 0 (w .count)) 1 (effectWords (w .effect))) ∙ sym (ap length laid) ∙ full in

@@ -134,7 +134,8 @@ wrong-map = (refl, refl, refl)
 
 -- a delete: the key is absent at a leaf and at an empty child; its node has one child; the other child is no reference
 not-deleted :
-    (deletePlan one 0x201 ≡ refused 3) × (deletePlan two 0x201 ≡ refused 3) × (deletePlan (set two 13 0) 0x200 ≡ refused 2) × (deletePlan (set two 13 2048) 0x200 ≡ refused 2)
+    (deletePlan one 0x201 ≡ refused 3) × (deletePlan two 0x201 ≡ refused 3) × (deletePlan (set two 13 0) 0x200 ≡ refused 2) ×
+    (deletePlan (set two 13 2048) 0x200 ≡ refused 2)
 unfolding sizeOf capacityOf refOf headOf walkFrom lowestFrom scan tally deletePlan
 not-deleted = (refl, refl, refl, refl)
 

@@ -51,13 +51,15 @@ module _ (pool map : List ℕ) where
   unfolding made
   one-made w v e s f = rw (stored pool w v s, ← f)
 
-  pub two-made : (w v x y : ℕ) (e : Effect) {a b k : ℕ} {pool′ pool″ map′ : List ℕ} → after a pool′ ≡ storeOf w v pool → after b pool″ ≡ storeOf x y pool′ → after k map′ ≡ finishOf e map
+  pub two-made : (w v x y : ℕ) (e : Effect) {a b k : ℕ} {pool′ pool″ map′ : List ℕ} → after a pool′ ≡ storeOf w v pool
+      → after b pool″ ≡ storeOf x y pool′ → after k map′ ≡ finishOf e map
       → left (done 0 2) pool″ map′ ≡ wholeOf (decided (store w v ∷ store x y ∷ []) e) pool map
   unfolding made
   two-made w v x y e {pool′ = pool′} s t f = rw (stored pool′ x y t, stored pool w v s, ← f)
 
 -- the two words of a leaf
-pub leaf-made : (pool : List ℕ) (w k v : ℕ) {a b : ℕ} {p q : List ℕ} → after a p ≡ storeOf w k pool → after b q ≡ storeOf (w + 1) v p → q ≡ made (block w (k ∷ v ∷ [])) pool
+pub leaf-made : (pool : List ℕ) (w k v : ℕ) {a b : ℕ} {p q : List ℕ} → after a p ≡ storeOf w k pool → after b q ≡ storeOf (w + 1) v p
+    → q ≡ made (block w (k ∷ v ∷ [])) pool
 unfolding made block
 leaf-made pool w k v {p = p} s t = rw (stored p (w + 1) v t, stored pool w k s)
 
@@ -85,7 +87,8 @@ module _ (pool map : List ℕ) (n k v at : ℕ) {leaf : ℕ} (free : leaf ≡ fr
   pub grow-full : n ≤ leaf → left (done 4 0) pool map ≡ wholeOf (growOf map n k v at) pool map
   grow-full h = rw (← free, le-ltb leaf n h)
 
-  pub grow-made : leaf < n → {r a b : ℕ} {p q map′ : List ℕ} → p ≡ made (block (leafWord leaf) (k ∷ v ∷ [])) pool → r ≡ leafRef leaf → after a q ≡ storeOf at r p
+  pub grow-made : leaf < n → {r a b : ℕ} {p q map′ : List ℕ} → p ≡ made (block (leafWord leaf) (k ∷ v ∷ [])) pool → r ≡ leafRef leaf
+      → after a q ≡ storeOf at r p
       → after b map′ ≡ finishOf (TakesLeaf leaf) map → left (done 0 3) q map′ ≡ wholeOf (growOf map n k v at) pool map
   unfolding block made
   grow-made h {r = r} {p = p} l e s f = rw (← free, lt-ltb leaf n h, ← f, stored p at r s, l, e)
@@ -112,7 +115,9 @@ cleaving-is n s leaf node k v (ANode j b) = refl
 
 split-stored : (n : ℕ) (s : Cleft) (leaf node k v : ℕ) (target : Target) (pool : List ℕ)
     → made (putStores (cleaving n s leaf node k v target)) pool
-    ≡ set (made (targetHeader n s target) (made (block (nodeWord n node) (headerOf (s .depth) (s .diff - s .depth) k ∷ tab 16 (splitChild s leaf k))) (made (block (leafWord leaf) (k ∷ v ∷ [])) pool))) (s .at) (nodeRef node)
+    ≡ set (made (targetHeader n s target)
+    (made (block (nodeWord n node) (headerOf (s .depth) (s .diff - s .depth) k ∷ tab 16 (splitChild s leaf k))) (made (block (leafWord leaf) (k ∷ v ∷ [])) pool)))
+    (s .at) (nodeRef node)
 split-stored n s leaf node k v target pool =
     let a : List Store = block (leafWord leaf) (k ∷ v ∷ []) in
     let b : List Store = block (nodeWord n node) (headerOf (s .depth) (s .diff - s .depth) k ∷ tab 16 (splitChild s leaf k)) in

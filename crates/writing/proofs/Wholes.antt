@@ -107,7 +107,8 @@ module _ (pool map : List ℕ) (k : ℕ) where
   unfolding deleteOf
   delete-lengths = whole-lengths deleteMapped pool map
 
-  pub delete-unique : {r r′ : Done} {p p′ m m′ : List ℕ} → left r p m ≡ deleteOf pool map k → left r′ p′ m′ ≡ deleteOf pool map k → (r ≡ r′) × (p ≡ p′) × (m ≡ m′)
+  pub delete-unique : {r r′ : Done} {p p′ m m′ : List ℕ} → left r p m ≡ deleteOf pool map k → left r′ p′ m′ ≡ deleteOf pool map k
+      → (r ≡ r′) × (p ≡ p′) × (m ≡ m′)
   delete-unique = left-unique
 
 pub plan-delete-unique : (pool : List ℕ) (k : ℕ) {p p′ : Planned} → p ≡ plannedOf (deletePlan pool k) → p′ ≡ plannedOf (deletePlan pool k) → p ≡ p′
@@ -138,7 +139,8 @@ module _ (pool map : List ℕ) (n : ℕ) {z : Size} (size : z ≡ sizeOf (length
     unfolding formatOf
     format-unmapped h = rw (← size, holds, ne-eqb (length map) (bytesOf m) h)
 
-    pub format-made : {map′ : List ℕ} → length map ≡ bytesOf m → map′ ≡ replicate (length map) 0 → formatted 0 (set (set pool 1 0) 0 n) map′ ≡ formatOf pool map n
+    pub format-made : {map′ : List ℕ} → length map ≡ bytesOf m → map′ ≡ replicate (length map) 0
+        → formatted 0 (set (set pool 1 0) 0 n) map′ ≡ formatOf pool map n
     unfolding formatOf
     format-made h c = rw (← size, holds, eq-eqb (length map) (bytesOf m) h, c, size-same (length pool) n m (sym holds ∙ size))
 
@@ -171,6 +173,7 @@ module _ (pool map : List ℕ) (n : ℕ) where
           sized false = not-made
       go Wrong = not-made
 
-  pub format-unique : {r r′ : ℕ} {p p′ m m′ : List ℕ} → formatted r p m ≡ formatOf pool map n → formatted r′ p′ m′ ≡ formatOf pool map n → (r ≡ r′) × (p ≡ p′) × (m ≡ m′)
+  pub format-unique : {r r′ : ℕ} {p p′ m m′ : List ℕ} → formatted r p m ≡ formatOf pool map n → formatted r′ p′ m′ ≡ formatOf pool map n
+      → (r ≡ r′) × (p ≡ p′) × (m ≡ m′)
   format-unique a b =
       (ap (λ (x : Formatted). x .number) (a ∙ sym b), ap (λ (x : Formatted). x .pool) (a ∙ sym b), ap (λ (x : Formatted). x .map) (a ∙ sym b))

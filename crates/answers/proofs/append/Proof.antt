@@ -47,8 +47,12 @@ loop-again c =
     let at-loop = c .before .before in
     let start = at-loop .before .before .before in
     let a = start .args in
-    let l = at-loop .loop in
-    (search needs, simp length-set (l .inv .1), one-pasted (a .text .now) (a .out .now) (a .at) (l .i) (l .out) (c .before .loop-test .taken) (omega arith) (l .inv .2))
+    let l = at-loop .loop in (
+      search needs,
+      simp length-set (l .inv .1),
+      one-pasted (a .text .now) (a .out .now) (a .at) (l .i) (l .out) (c .before .loop-test .taken)
+          (omega arith) (l .inv .2),
+    )
 
 add-result : tie.Need-add-result Inv-loop μ-loop
 add-result c = search needs

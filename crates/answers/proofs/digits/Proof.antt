@@ -13,7 +13,8 @@ use Rattle.answers.proofs.digits.Statement.{statement}
 use Rattle.answers.proofs.digits.Tie as tie
 
 abbrev Inv-loop : tie.InvT-loop
-Inv-loop text₀ at base k x from i₀ rest₀ text i rest = (from ≤ i) × (i ≤ at) × (length text ≡ length text₀) × (lastDigits base (i - from) rest ++ drop i text ≡ lastDigits base k x ++ drop at text₀)
+Inv-loop text₀ at base k x from i₀ rest₀ text i rest =
+    (from ≤ i) × (i ≤ at) × (length text ≡ length text₀) × (lastDigits base (i - from) rest ++ drop i text ≡ lastDigits base k x ++ drop at text₀)
 
 abbrev μ-loop : tie.MeasureT-loop
 μ-loop text₀ at base k x from i₀ rest₀ text i rest = i
@@ -22,7 +23,9 @@ sub-from : tie.Need-sub-from Inv-loop μ-loop
 sub-from c = search needs
 
 loop-holds : tie.Need-loop-holds Inv-loop μ-loop
-loop-holds c = let e : c .before .args .at - (c .before .args .at - c .before .args .k) ≡ c .before .args .k = omega arith in (search needs, search needs, refl, rw e)
+loop-holds c =
+    let e : c .before .args .at - (c .before .args .at - c .before .args .k) ≡ c .before .args .k = omega arith in
+    (search needs, search needs, refl, rw e)
 
 rem-glyph : tie.Need-rem-glyph Inv-loop μ-loop
 rem-glyph c = search needs
@@ -47,8 +50,13 @@ loop-again c =
     let at-loop = at-loop-test .before in
     let l = at-loop .loop in
     let p = at-prepend .prepend in
-    let h = at-loop-test .loop-test .taken in
-    (omega arith, omega arith, search needs, digit-before _ _ (l .i) (l .rest) _ _ (l .inv .3) (p .result) _ _ h (p .ensures .0) (at-glyph .glyph .ensures) (p .ensures .1))
+    let h = at-loop-test .loop-test .taken in (
+      omega arith,
+      omega arith,
+      search needs,
+      digit-before _ _ (l .i) (l .rest) _ _ (l .inv .3) (p .result) _ _ h (p .ensures .0)
+          (at-glyph .glyph .ensures) (p .ensures .1),
+    )
 
 same-length : tie.Need-same-length Inv-loop μ-loop
 same-length c = c .before .loop .inv .2

@@ -12,7 +12,9 @@ use Rattle.answers.proofs.fields.Statement.{statement}
 use Rattle.answers.proofs.fields.Tie as tie
 
 abbrev Inv-loop : tie.InvT-loop
-Inv-loop text₀ at numbers from₀ i₀ text from i = (i ≤ length numbers) × (from ≤ at) × (at + 21 * i ≤ from + 21 * length numbers) × (length text ≡ length text₀) × (fieldsOf (take i numbers) (drop from text) ≡ fieldsOf numbers (drop at text₀))
+Inv-loop text₀ at numbers from₀ i₀ text from i =
+    (i ≤ length numbers) × (from ≤ at) × (at + 21 * i ≤ from + 21 * length numbers) × (length text ≡ length text₀) ×
+    (fieldsOf (take i numbers) (drop from text) ≡ fieldsOf numbers (drop at text₀))
 
 abbrev μ-loop : tie.MeasureT-loop
 μ-loop text₀ at numbers from₀ i₀ text from i = i

@@ -17,7 +17,9 @@ same-length : tie.Need-same-length
 same-length c = search needs
 
 returns : tie.Need-returns
-returns c = let e : c .args .at - 1 + 1 ≡ c .args .at = omega arith in (e, rw e at (byte-before (c .args .text .now) (c .args .at - 1) (c .args .byte) (omega arith)))
+returns c =
+    let e : c .args .at - 1 + 1 ≡ c .args .at = omega arith in
+    (e, rw e at (byte-before (c .args .text .now) (c .args .at - 1) (c .args .byte) (omega arith)))
 
 pub prepend-spec : {M : Type 1} → statement M
 prepend-spec = tie.close (tie.spec sub-from slice-write-text same-length returns)

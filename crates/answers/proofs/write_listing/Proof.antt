@@ -11,7 +11,8 @@ use Rattle.answers.proofs.write_listing.Statement.{statement}
 use Rattle.answers.proofs.write_listing.Tie as tie
 
 abbrev Inv-loop : tie.InvT-loop
-Inv-loop out₀ at keys values count most end₀ i₀ out end i = (i ≤ most) × (most ≤ length keys) × (most ≤ length values) × (length out ≡ length out₀) × (page out end ≡ entriesOf i keys values (page out₀ at))
+Inv-loop out₀ at keys values count most end₀ i₀ out end i =
+    (i ≤ most) × (most ≤ length keys) × (most ≤ length values) × (length out ≡ length out₀) × (page out end ≡ entriesOf i keys values (page out₀ at))
 
 abbrev μ-loop : tie.MeasureT-loop
 μ-loop out₀ at keys values count most end₀ i₀ out end i = most - i
@@ -53,8 +54,14 @@ loop-again c =
     let at-loop = at-write-answer .before .before .before .before .before in
     let start = at-loop .before .before .before .before .before .before in
     let a = start .args in
-    let l = at-loop .loop in
-    (omega arith, l .inv .1, l .inv .2, omega arith, entry-more (a .keys .now) (a .values .now) (l .i) (page (a .out .now) (a .at)) _ _ (l .inv .4) (at-write-answer .write-answer .ensures))
+    let l = at-loop .loop in (
+      omega arith,
+      l .inv .1,
+      l .inv .2,
+      omega arith,
+      entry-more (a .keys .now) (a .values .now) (l .i) (page (a .out .now) (a .at)) _ _ (l .inv .4)
+          (at-write-answer .write-answer .ensures),
+    )
 
 write-answer-requires-2 : tie.Need-write-answer-requires-2 Inv-loop μ-loop
 write-answer-requires-2 c κs = search needs
@@ -72,7 +79,8 @@ returns c =
     let a = start .args in
     let l = at-loop .loop in
     let n = at-least2 .least2 in
-    listed (a .keys .now) (a .values .now) (a .count) (n .result) (l .i) (page (a .out .now) (a .at)) _ _ (omega arith) (at-loop-test .loop-test .left) (l .inv .0) (l .inv .4) (at-write-answer2 .write-answer2 .ensures)
+    listed (a .keys .now) (a .values .now) (a .count) (n .result) (l .i) (page (a .out .now) (a .at)) _ _ (omega arith)
+    (at-loop-test .loop-test .left) (l .inv .0) (l .inv .4) (at-write-answer2 .write-answer2 .ensures)
 
 pub write-listing-spec : {M : Type 1} → statement M
 write-listing-spec =

@@ -29,7 +29,12 @@ loop-less : tie.Need-loop-less Inv-loop μ-loop
 loop-less c = search needs
 
 loop-again : tie.Need-loop-again Inv-loop μ-loop
-loop-again c = (omega arith, simp length-set (omega arith), rw (c .before .loop .inv .2) (fill-more (c .before .loop .i) 0 (c .before .before .args .map .now) (omega arith)))
+loop-again c = (
+  omega arith,
+  simp length-set (omega arith),
+  rw (c .before .loop .inv .2)
+      (fill-more (c .before .loop .i) 0 (c .before .before .args .map .now) (omega arith)),
+)
 
 same-length : tie.Need-same-length Inv-loop μ-loop
 same-length c = search needs

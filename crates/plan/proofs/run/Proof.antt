@@ -13,7 +13,8 @@ use Rattle.plan.proofs.run.Statement.{statement}
 use Rattle.plan.proofs.run.Tie as tie
 
 abbrev Inv-loop : tie.InvT-loop
-Inv-loop pool₀ most words values count i₀ pool i = (i ≤ most) × (length pool ≡ length pool₀) × (stepsFrom (most - i) (bare words values count) i pool ≡ runOf most (bare words values count) pool₀)
+Inv-loop pool₀ most words values count i₀ pool i =
+    (i ≤ most) × (length pool ≡ length pool₀) × (stepsFrom (most - i) (bare words values count) i pool ≡ runOf most (bare words values count) pool₀)
 
 abbrev μ-loop : tie.MeasureT-loop
 μ-loop pool₀ most words values count i₀ pool i = most - i

@@ -30,7 +30,8 @@ returns c = (simp (eq-eqb _ _ (c .match .keys1)), tt)
 
 returns-2 : tie.Need-returns-2
 unfolding refOf
-returns-2 c = (simp (ne-eqb _ _ (c .before .before .match .rest .1), le-leb _ _ (le-of-suc-le-suc (c .before .if1 .taken)), lt-ltb _ _ (c .if2 .taken)), c .if2 .taken)
+returns-2 c =
+    (simp (ne-eqb _ _ (c .before .before .match .rest .1), le-leb _ _ (le-of-suc-le-suc (c .before .if1 .taken)), lt-ltb _ _ (c .if2 .taken)), c .if2 .taken)
 
 returns-3 : tie.Need-returns-3
 unfolding refOf

@@ -112,19 +112,24 @@ survey-node-calls t = (
   judge-header-reads.Learnt,
 )
 
-survey-node-header-requires : (t : ℕ) → survey-node-lts.Need-header-requires (survey-node-calls t) (survey-node-at t) survey-node.Post survey-node-Inv-loop survey-node-μ-loop
+survey-node-header-requires : (t : ℕ)
+    → survey-node-lts.Need-header-requires (survey-node-calls t) (survey-node-at t) survey-node.Post survey-node-Inv-loop survey-node-μ-loop
 survey-node-header-requires t c κs = search needs
 
-survey-node-accept-requires : (t : ℕ) → survey-node-lts.Need-accept-requires (survey-node-calls t) (survey-node-at t) survey-node.Post survey-node-Inv-loop survey-node-μ-loop
+survey-node-accept-requires : (t : ℕ)
+    → survey-node-lts.Need-accept-requires (survey-node-calls t) (survey-node-at t) survey-node.Post survey-node-Inv-loop survey-node-μ-loop
 survey-node-accept-requires t c κs = search needs
 
-survey-node-enum-known-b : (t : ℕ) → survey-node-lts.Need-enum-known-b (survey-node-calls t) (survey-node-at t) survey-node.Post survey-node-Inv-loop survey-node-μ-loop
+survey-node-enum-known-b : (t : ℕ)
+    → survey-node-lts.Need-enum-known-b (survey-node-calls t) (survey-node-at t) survey-node.Post survey-node-Inv-loop survey-node-μ-loop
 survey-node-enum-known-b t c = search needs
 
-survey-node-enum-told : (t : ℕ) → survey-node-lts.Need-enum-told (survey-node-calls t) (survey-node-at t) survey-node.Post survey-node-Inv-loop survey-node-μ-loop
+survey-node-enum-told : (t : ℕ)
+    → survey-node-lts.Need-enum-told (survey-node-calls t) (survey-node-at t) survey-node.Post survey-node-Inv-loop survey-node-μ-loop
 survey-node-enum-told t c = search needs
 
-survey-node-damage-requires : (t : ℕ) → survey-node-lts.Need-damage-requires (survey-node-calls t) (survey-node-at t) survey-node.Post survey-node-Inv-loop survey-node-μ-loop
+survey-node-damage-requires : (t : ℕ)
+    → survey-node-lts.Need-damage-requires (survey-node-calls t) (survey-node-at t) survey-node.Post survey-node-Inv-loop survey-node-μ-loop
 survey-node-damage-requires t c κs = search needs
 
 survey-node-returns : (t : ℕ) → survey-node-lts.Need-returns (survey-node-calls t) (survey-node-at t) survey-node.Post survey-node-Inv-loop survey-node-μ-loop
@@ -137,13 +142,16 @@ survey-node-returns t c =
 survey-node-add-if1 : (t : ℕ) → survey-node-lts.Need-add-if1 (survey-node-calls t) (survey-node-at t) survey-node.Post survey-node-Inv-loop survey-node-μ-loop
 survey-node-add-if1 t c = search needs
 
-survey-node-slice-read-if1 : (t : ℕ) → survey-node-lts.Need-slice-read-if1 (survey-node-calls t) (survey-node-at t) survey-node.Post survey-node-Inv-loop survey-node-μ-loop
+survey-node-slice-read-if1 : (t : ℕ)
+    → survey-node-lts.Need-slice-read-if1 (survey-node-calls t) (survey-node-at t) survey-node.Post survey-node-Inv-loop survey-node-μ-loop
 survey-node-slice-read-if1 t c = search needs
 
-survey-node-damage-requires-2 : (t : ℕ) → survey-node-lts.Need-damage-requires-2 (survey-node-calls t) (survey-node-at t) survey-node.Post survey-node-Inv-loop survey-node-μ-loop
+survey-node-damage-requires-2 : (t : ℕ)
+    → survey-node-lts.Need-damage-requires-2 (survey-node-calls t) (survey-node-at t) survey-node.Post survey-node-Inv-loop survey-node-μ-loop
 survey-node-damage-requires-2 t c κs = search needs
 
-survey-node-returns-2 : (t : ℕ) → survey-node-lts.Need-returns-2 (survey-node-calls t) (survey-node-at t) survey-node.Post survey-node-Inv-loop survey-node-μ-loop
+survey-node-returns-2 : (t : ℕ)
+    → survey-node-lts.Need-returns-2 (survey-node-calls t) (survey-node-at t) survey-node.Post survey-node-Inv-loop survey-node-μ-loop
 survey-node-returns-2 t c =
     let x = c .before .before .before .before .before .before in
     let a = x .before .before .before .before .args in
@@ -156,21 +164,26 @@ survey-node-add-map t c = search needs
 survey-node-cast-map : (t : ℕ) → survey-node-lts.Need-cast-map (survey-node-calls t) (survey-node-at t) survey-node.Post survey-node-Inv-loop survey-node-μ-loop
 survey-node-cast-map t c = search needs
 
-survey-node-add-map-2 : (t : ℕ) → survey-node-lts.Need-add-map-2 (survey-node-calls t) (survey-node-at t) survey-node.Post survey-node-Inv-loop survey-node-μ-loop
+survey-node-add-map-2 : (t : ℕ)
+    → survey-node-lts.Need-add-map-2 (survey-node-calls t) (survey-node-at t) survey-node.Post survey-node-Inv-loop survey-node-μ-loop
 survey-node-add-map-2 t c = search needs
 
-survey-node-slice-write-map : (t : ℕ) → survey-node-lts.Need-slice-write-map (survey-node-calls t) (survey-node-at t) survey-node.Post survey-node-Inv-loop survey-node-μ-loop
+survey-node-slice-write-map : (t : ℕ)
+    → survey-node-lts.Need-slice-write-map (survey-node-calls t) (survey-node-at t) survey-node.Post survey-node-Inv-loop survey-node-μ-loop
 survey-node-slice-write-map t c = search needs
 
-survey-node-loop-holds : (t : ℕ) → survey-node-lts.Need-loop-holds (survey-node-calls t) (survey-node-at t) survey-node.Post survey-node-Inv-loop survey-node-μ-loop
+survey-node-loop-holds : (t : ℕ)
+    → survey-node-lts.Need-loop-holds (survey-node-calls t) (survey-node-at t) survey-node.Post survey-node-Inv-loop survey-node-μ-loop
 survey-node-loop-holds t c =
     let x = c .before .before .before .before .before .before .before .before .before in
     joined-none _ _ _ _ _ (simp length-set (x .pre .1 .1))
 
-survey-node-child-requires : (t : ℕ) → survey-node-lts.Need-child-requires (survey-node-calls t) (survey-node-at t) survey-node.Post survey-node-Inv-loop survey-node-μ-loop
+survey-node-child-requires : (t : ℕ)
+    → survey-node-lts.Need-child-requires (survey-node-calls t) (survey-node-at t) survey-node.Post survey-node-Inv-loop survey-node-μ-loop
 survey-node-child-requires t c κs = search needs
 
-survey-node-add-survey-ref : (t : ℕ) → survey-node-lts.Need-add-survey-ref (survey-node-calls t) (survey-node-at t) survey-node.Post survey-node-Inv-loop survey-node-μ-loop
+survey-node-add-survey-ref : (t : ℕ)
+    → survey-node-lts.Need-add-survey-ref (survey-node-calls t) (survey-node-at t) survey-node.Post survey-node-Inv-loop survey-node-μ-loop
 survey-node-add-survey-ref t c =
     let x = c .before .before .before .before .before .before .before in
     let h = rw (x .b .given .1) at (x .before .before .accept .ensures .1) in omega arith
@@ -183,19 +196,23 @@ survey-node-survey-ref-requires t c κs =
     let h = rw (x .b .given .1) at (x .before .before .accept .ensures .1) in
     (omega arith, (y .pre .1 .0, c .before .before .before .before .loop .inv .long, omega arith, c .before .if2 .taken))
 
-survey-node-join-requires : (t : ℕ) → survey-node-lts.Need-join-requires (survey-node-calls t) (survey-node-at t) survey-node.Post survey-node-Inv-loop survey-node-μ-loop
+survey-node-join-requires : (t : ℕ)
+    → survey-node-lts.Need-join-requires (survey-node-calls t) (survey-node-at t) survey-node.Post survey-node-Inv-loop survey-node-μ-loop
 survey-node-join-requires t c κs = search needs
 
-survey-node-damage-requires-3 : (t : ℕ) → survey-node-lts.Need-damage-requires-3 (survey-node-calls t) (survey-node-at t) survey-node.Post survey-node-Inv-loop survey-node-μ-loop
+survey-node-damage-requires-3 : (t : ℕ)
+    → survey-node-lts.Need-damage-requires-3 (survey-node-calls t) (survey-node-at t) survey-node.Post survey-node-Inv-loop survey-node-μ-loop
 survey-node-damage-requires-3 t c κs = search needs
 
-survey-node-same-length : (t : ℕ) → survey-node-lts.Need-same-length (survey-node-calls t) (survey-node-at t) survey-node.Post survey-node-Inv-loop survey-node-μ-loop
+survey-node-same-length : (t : ℕ)
+    → survey-node-lts.Need-same-length (survey-node-calls t) (survey-node-at t) survey-node.Post survey-node-Inv-loop survey-node-μ-loop
 survey-node-same-length t c =
     let x = c .before .before .before .before .before .before .before .before .before .before .before in
     let y = x .before .before .before .before .before .before .before .before .before .before in
     omega (arith, x .loop .inv .long, y .pre .1 .1)
 
-survey-node-returns-3 : (t : ℕ) → survey-node-lts.Need-returns-3 (survey-node-calls t) (survey-node-at t) survey-node.Post survey-node-Inv-loop survey-node-μ-loop
+survey-node-returns-3 : (t : ℕ)
+    → survey-node-lts.Need-returns-3 (survey-node-calls t) (survey-node-at t) survey-node.Post survey-node-Inv-loop survey-node-μ-loop
 survey-node-returns-3 t c =
     let x = c .before .before .before .before .before .before in
     let y = x .before .before .before .before .before in
@@ -206,7 +223,8 @@ survey-node-returns-3 t c =
     rw (c .damage3 .ensures) (node-over (a .pool .now) (a .n) (a .w) (a .j) (a .map .now) (z .before .header .ensures) (z .accept .ensures .0) _
     (y .before .before .before .before .b .given .1) (y .before .if1 .left) _ _ o refl)
 
-survey-node-add-children : (t : ℕ) → survey-node-lts.Need-add-children (survey-node-calls t) (survey-node-at t) survey-node.Post survey-node-Inv-loop survey-node-μ-loop
+survey-node-add-children : (t : ℕ)
+    → survey-node-lts.Need-add-children (survey-node-calls t) (survey-node-at t) survey-node.Post survey-node-Inv-loop survey-node-μ-loop
 survey-node-add-children t c =
     let x = c .before .before .before .before .before .before .before .before .before .before in
     let y = x .before .before .before .before .before .before .before .before .before .before in
@@ -215,23 +233,28 @@ survey-node-add-children t c =
 survey-node-add-c : (t : ℕ) → survey-node-lts.Need-add-c (survey-node-calls t) (survey-node-at t) survey-node.Post survey-node-Inv-loop survey-node-μ-loop
 survey-node-add-c t c = search needs
 
-survey-node-loop-less : (t : ℕ) → survey-node-lts.Need-loop-less (survey-node-calls t) (survey-node-at t) survey-node.Post survey-node-Inv-loop survey-node-μ-loop
+survey-node-loop-less : (t : ℕ)
+    → survey-node-lts.Need-loop-less (survey-node-calls t) (survey-node-at t) survey-node.Post survey-node-Inv-loop survey-node-μ-loop
 survey-node-loop-less t c = search needs
 
-survey-node-loop-again : (t : ℕ) → survey-node-lts.Need-loop-again (survey-node-calls t) (survey-node-at t) survey-node.Post survey-node-Inv-loop survey-node-μ-loop
+survey-node-loop-again : (t : ℕ)
+    → survey-node-lts.Need-loop-again (survey-node-calls t) (survey-node-at t) survey-node.Post survey-node-Inv-loop survey-node-μ-loop
 survey-node-loop-again t c =
     let l = c .before .before .before .loop in
     ⊎-elim (λ w. rw (w .8, w .9, w .10) (joined-child _ _ _ _ _ (l .inv) (c .before .before .loop-test .taken) (c .before .child .ensures) (w .0 .taken) (w .2 .ensures)
     (w .5 .ensures) (w .7 .left) (omega arith)))
     (λ w. rw (w .1, w .2, w .3) (joined-empty _ _ _ _ _ (l .inv) (c .before .before .loop-test .taken) (c .before .child .ensures) (w .0 .left))) (c .if2 .came)
 
-survey-node-damage-requires-4 : (t : ℕ) → survey-node-lts.Need-damage-requires-4 (survey-node-calls t) (survey-node-at t) survey-node.Post survey-node-Inv-loop survey-node-μ-loop
+survey-node-damage-requires-4 : (t : ℕ)
+    → survey-node-lts.Need-damage-requires-4 (survey-node-calls t) (survey-node-at t) survey-node.Post survey-node-Inv-loop survey-node-μ-loop
 survey-node-damage-requires-4 t c κs = search needs
 
-survey-node-same-length-2 : (t : ℕ) → survey-node-lts.Need-same-length-2 (survey-node-calls t) (survey-node-at t) survey-node.Post survey-node-Inv-loop survey-node-μ-loop
+survey-node-same-length-2 : (t : ℕ)
+    → survey-node-lts.Need-same-length-2 (survey-node-calls t) (survey-node-at t) survey-node.Post survey-node-Inv-loop survey-node-μ-loop
 survey-node-same-length-2 t c = search needs
 
-survey-node-returns-4 : (t : ℕ) → survey-node-lts.Need-returns-4 (survey-node-calls t) (survey-node-at t) survey-node.Post survey-node-Inv-loop survey-node-μ-loop
+survey-node-returns-4 : (t : ℕ)
+    → survey-node-lts.Need-returns-4 (survey-node-calls t) (survey-node-at t) survey-node.Post survey-node-Inv-loop survey-node-μ-loop
 survey-node-returns-4 t c =
     let x = c .before .before .before .before .before .before .before in
     let y = x .before .before .before .before .before .before in
@@ -246,16 +269,19 @@ survey-node-judge-header-requires t c κs =
     let x = c .before .before .before .before .before .before in
     header-fits _ _ (x .before .before .accept .ensures .0) (x .b .given .1)
 
-survey-node-same-length-3 : (t : ℕ) → survey-node-lts.Need-same-length-3 (survey-node-calls t) (survey-node-at t) survey-node.Post survey-node-Inv-loop survey-node-μ-loop
+survey-node-same-length-3 : (t : ℕ)
+    → survey-node-lts.Need-same-length-3 (survey-node-calls t) (survey-node-at t) survey-node.Post survey-node-Inv-loop survey-node-μ-loop
 survey-node-same-length-3 t c = search needs
 
-survey-node-returns-5 : (t : ℕ) → survey-node-lts.Need-returns-5 (survey-node-calls t) (survey-node-at t) survey-node.Post survey-node-Inv-loop survey-node-μ-loop
+survey-node-returns-5 : (t : ℕ)
+    → survey-node-lts.Need-returns-5 (survey-node-calls t) (survey-node-at t) survey-node.Post survey-node-Inv-loop survey-node-μ-loop
 survey-node-returns-5 t c =
     let x = c .before .before .before .before .before .before .before in
     let y = x .before .before .before .before .before .before in
     let a = y .args in
     let e : c .before .before .before .loop .c ≡ 16 = omega arith in
-    node-judged (a .pool .now) (a .n) (a .w) (a .j) (a .map .now) (x .before .before .before .header .ensures) (x .before .before .accept .ensures .0) _ (x .b .given .1)
+    node-judged (a .pool .now) (a .n) (a .w) (a .j) (a .map .now) (x .before .before .before .header .ensures)
+    (x .before .before .accept .ensures .0) _ (x .b .given .1)
     (c .before .before .before .before .if1 .left) (rw e at (c .before .before .before .loop .inv)) (c .before .if4 .left) (c .judge-header .ensures)
 
 survey-ref-reference-requires : (t : ℕ) → survey-ref-lts.Need-reference-requires (survey-ref-calls t) (survey-ref-at t) survey-ref.Post
@@ -276,7 +302,8 @@ survey-ref-leaf-key-requires t c κs =
     (x .pre .1 .0, rw (c .before .before .i .given .1) at (c .before .before .before .before .reference .ensures .1))
 
 survey-ref-meet-leaf-requires : (t : ℕ) → survey-ref-lts.Need-meet-leaf-requires (survey-ref-calls t) (survey-ref-at t) survey-ref.Post
-survey-ref-meet-leaf-requires t c κs = let h = rw (c .before .before .before .i .given .1) at (c .before .before .before .before .before .reference .ensures .1) in omega arith
+survey-ref-meet-leaf-requires t c κs =
+    let h = rw (c .before .before .before .i .given .1) at (c .before .before .before .before .before .reference .ensures .1) in omega arith
 
 survey-ref-enum-known-j : (t : ℕ) → survey-ref-lts.Need-enum-known-j (survey-ref-calls t) (survey-ref-at t) survey-ref.Post
 survey-ref-enum-known-j t c = search needs
@@ -296,7 +323,8 @@ survey-ref-returns : (t : ℕ) → survey-ref-lts.Need-returns (survey-ref-calls
 survey-ref-returns t c =
     let x = c .before .before .before .before .before .before in
     let a = x .args in
-    absurd (x .pre .1 .3 (ref-empty (a .pool .now) (a .n) (a .w) (a .r) (a .map .now) (c .before .before .before .reference .ensures .0) (c .before .enum-told .given .1)))
+    absurd (x .pre .1 .3
+    (ref-empty (a .pool .now) (a .n) (a .w) (a .r) (a .map .now) (c .before .before .before .reference .ensures .0) (c .before .enum-told .given .1)))
 
 survey-ref-same-length : (t : ℕ) → survey-ref-lts.Need-same-length (survey-ref-calls t) (survey-ref-at t) survey-ref.Post
 survey-ref-same-length t c = search needs
@@ -306,7 +334,8 @@ survey-ref-returns-2 t c =
     let x = c .before .before .before .before .before .before in
     let y = x .before .before .before .before .before in
     let a = y .args in
-    ref-leaf (a .pool .now) (a .n) (a .w) (a .r) (a .map .now) (x .before .before .reference .ensures .0) (x .i .given .1) (c .before .before .before .leaf-key .ensures)
+    ref-leaf (a .pool .now) (a .n) (a .w) (a .r) (a .map .now) (x .before .before .reference .ensures .0) (x .i .given .1)
+    (c .before .before .before .leaf-key .ensures)
     (c .before .before .meet-leaf .ensures)
 
 survey-ref-same-length-2 : (t : ℕ) → survey-ref-lts.Need-same-length-2 (survey-ref-calls t) (survey-ref-at t) survey-ref.Post
@@ -317,12 +346,14 @@ survey-ref-returns-3 t c =
     let x = c .before .before .before .before .before in
     let y = x .before .before .before .before .before in
     let a = y .args in
-    ref-node (a .pool .now) (a .n) (a .w) (a .r) (a .map .now) (x .before .before .reference .ensures .0) (x .j .given .1) (c .before .before .survey-node .ensures)
+    ref-node (a .pool .now) (a .n) (a .w) (a .r) (a .map .now) (x .before .before .reference .ensures .0) (x .j .given .1)
+    (c .before .before .survey-node .ensures)
 
 survey-ref-returns-4 : (t : ℕ) → survey-ref-lts.Need-returns-4 (survey-ref-calls t) (survey-ref-at t) survey-ref.Post
 survey-ref-returns-4 t c =
     let a = c .before .before .before .before .before .before .args in
-    rw (c .damage2 .ensures) (ref-bad (a .pool .now) (a .n) (a .w) (a .r) (a .map .now) (c .before .before .before .reference .ensures .0) _ (c .before .enum-told2 .given .1) refl)
+    rw (c .damage2 .ensures)
+    (ref-bad (a .pool .now) (a .n) (a .w) (a .r) (a .map .now) (c .before .before .before .reference .ensures .0) _ (c .before .enum-told2 .given .1) refl)
 
 pub +survey-node+survey-ref-spec : {M : Type 1} → statement M
 +survey-node+survey-ref-spec = close μ-survey-node μ-survey-ref (λ t. survey-node-lts.spec (survey-node-calls t)

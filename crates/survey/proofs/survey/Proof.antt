@@ -77,7 +77,8 @@ returns-4 c =
     let start = at-reference .before .before .before .before in
     let a = start .args in
     found _ _ (start .pre .1)
-    (ref-bad (a .pool .now) (a .n) 0 (wordAt (a .pool .now) 1) (a .map .now) (at-reference .reference .ensures .0) (census 0 false) (c .enum-told2 .given .1) refl)
+    (ref-bad (a .pool .now) (a .n) 0 (wordAt (a .pool .now) 1) (a .map .now) (at-reference .reference .ensures .0) (census 0 false)
+    (c .enum-told2 .given .1) refl)
 
 pub survey-spec : {M : Type 1} → statement M
 survey-spec =

@@ -43,7 +43,8 @@ loop-again c =
     let i = at-loop .loop .c in
     let e = c .before .child .ensures in (
       search needs,
-      ⊎-elim (λ w. omega (arith, counted (a .pool .now) (a .n) (a .j) i e (w .0 .taken))) (λ w. omega (arith, uncounted (a .pool .now) (a .n) (a .j) i e (w .0 .left))) (c .if1 .came),
+      ⊎-elim (λ w. omega (arith, counted (a .pool .now) (a .n) (a .j) i e (w .0 .taken)))
+          (λ w. omega (arith, uncounted (a .pool .now) (a .n) (a .j) i e (w .0 .left))) (c .if1 .came),
     )
 
 returns : tie.Need-returns Inv-loop μ-loop

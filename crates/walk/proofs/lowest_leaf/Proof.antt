@@ -56,7 +56,9 @@ returns c =
     let at-reference = c .before .before in
     let at-loop = at-reference .before in
     let r = at-reference .reference in
-    c .lowest-end .ensures ∙ sym (lowest-ends _ _ 16 _ _ (r .result) (sym (r .ensures .0)) (unmatched (r .result) (c .before .match .keys2))) ∙ at-loop .loop .inv .1
+    c .lowest-end .ensures
+    ∙ sym (lowest-ends _ _ 16 _ _ (r .result) (sym (r .ensures .0)) (unmatched (r .result) (c .before .match .keys2)))
+    ∙ at-loop .loop .inv .1
 
 header-requires : tie.Need-header-requires Inv-loop μ-loop
 header-requires c κs =

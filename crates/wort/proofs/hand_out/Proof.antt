@@ -26,7 +26,8 @@ returns c =
     let at-lay-stores-arg = c .before .before .before in
     let at-lay-effect = at-lay-stores-arg .before in
     let start = at-lay-effect .before .before .before .before .before in
-    ap (planned (start .args .p .number)) (laid-out (start .args .plan .now) _ _ (start .args .p .plan) (at-lay-effect .lay-effect .ensures) (at-lay-stores-arg .lay-stores-arg .given .0 .1) (c .lay-stores .ensures))
+    ap (planned (start .args .p .number)) (laid-out (start .args .plan .now) _ _ (start .args .p .plan) (at-lay-effect .lay-effect .ensures)
+    (at-lay-stores-arg .lay-stores-arg .given .0 .1) (c .lay-stores .ensures))
 
 pub hand-out-spec : {M : Type 1} → statement M
 hand-out-spec =

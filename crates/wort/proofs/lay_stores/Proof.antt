@@ -59,7 +59,8 @@ loop-again c =
     let start = c .before .before .before .before in (
       omega arith,
       simp length-set (omega arith),
-      rw (at .loop .inv .2) (written-next (start .args .plan .now) (start .args .words .now) (start .args .values .now) (start .pre .0) (start .pre .1) (start .pre .2) (at .loop .i) (omega arith)),
+      rw (at .loop .inv .2) (written-next (start .args .plan .now) (start .args .words .now) (start .args .values .now) (start .pre .0)
+          (start .pre .1) (start .pre .2) (at .loop .i) (omega arith)),
     )
 
 same-length : tie.Need-same-length Inv-loop μ-loop
@@ -70,7 +71,9 @@ returns c =
     let at = c .before in
     let start = c .before .before in
     let done : at .loop .i ≡ 21 = omega arith in
-    at .loop .inv .2 ∙ rw done (written-all (start .args .plan .now) (start .args .words .now) (start .args .values .now) (start .pre .0) (start .pre .1) (start .pre .2))
+    at .loop .inv .2
+    ∙ rw done
+    (written-all (start .args .plan .now) (start .args .words .now) (start .args .values .now) (start .pre .0) (start .pre .1) (start .pre .2))
 
 pub lay-stores-spec : {M : Type 1} → statement M
 lay-stores-spec =

@@ -16,7 +16,9 @@ same-length-2 : tie.Need-same-length-2
 same-length-2 c = search needs
 
 returns : tie.Need-returns
-returns c = ap (λ (l : Left). opening (l .answer .number) (l .answer .keys) (l .answer .headers) (l .pool) (l .map)) (c .before .before .before .before .«open» .ensures)
+returns c =
+    ap (λ (l : Left). opening (l .answer .number) (l .answer .keys) (l .answer .headers) (l .pool) (l .map))
+    (c .before .before .before .before .«open» .ensures)
 
 pub wort-open-spec : {M : Type 1} → statement M
 wort-open-spec = tie.close (tie.spec open-requires same-length same-length-2 returns)

@@ -62,7 +62,8 @@ returns-3 c =
     let x = c .before .before .before .before .before in
     let y = x .before .before .before .before .before in
     let a = y .before .before .args in
-    mend-header (a .pool .now) (a .n) (a .w) (a .j) (y .header .ensures) (x .before .before .before .before .accept .ensures .0) (x .before .before .b .given .1)
+    mend-header (a .pool .now) (a .n) (a .w) (a .j) (y .header .ensures) (x .before .before .before .before .accept .ensures .0)
+    (x .before .before .b .given .1)
     (x .node-ref .ensures) (at-lowest-leaf .lowest-leaf .ensures) (at-near .near .given .1) (c .pack .ensures)
 
 pub fresh-header-spec : {M : Type 1} → statement M

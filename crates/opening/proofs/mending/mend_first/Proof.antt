@@ -60,8 +60,12 @@ loop-again c =
     let at-loop = c .before .before .before in
     let start = at-loop .before .before .before in
     let a = start .args in
-    let l = at-loop .loop in
-    (omega arith, sym (scan-next (stale (a .pool .now) (a .n) (a .map .now)) (a .n - 1) (l .j) (omega arith) (sym (c .before .is-stale .ensures) ∙ c .if1 .left)) ∙ l .inv .1)
+    let l = at-loop .loop in (
+      omega arith,
+      sym
+          (scan-next (stale (a .pool .now) (a .n) (a .map .now)) (a .n - 1) (l .j) (omega arith) (sym (c .before .is-stale .ensures) ∙ c .if1 .left))
+          ∙ l .inv .1,
+    )
 
 none-requires : tie.Need-none-requires Inv-loop μ-loop
 none-requires c κs = search needs

@@ -59,7 +59,8 @@ returns-3 c =
     let a = z .args in
     mend-done (a .n) (a .map .now) (a .j) (a .pool .now) (y .before .is-stale .ensures) (y .if1 .left) (x .before .before .before .marked-depth .ensures)
     (rw (x .word .given .1) at (x .before .before .fresh-header .ensures))
-    (omega (arith, z .pre .0 .words, z .pre .2)) (c .before .before .before .before .before .node-word .ensures) (c .before .before .before .before .one .ensures)
+    (omega (arith, z .pre .0 .words, z .pre .2)) (c .before .before .before .before .before .node-word .ensures)
+    (c .before .before .before .before .one .ensures)
     (c .before .before .step .ensures)
 
 pub mend-node-spec : {M : Type 1} → statement M

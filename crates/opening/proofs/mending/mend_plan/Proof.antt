@@ -21,7 +21,9 @@ none-requires : tie.Need-none-requires
 none-requires c κs = search needs
 
 returns : tie.Need-returns
-returns c = c .none .ensures ∙ ap (λ (σ : List Store). planOf σ Nothing) (rw (c .before .enum-told .given .1) at (c .before .before .before .fresh-header .ensures))
+returns c =
+    c .none .ensures
+    ∙ ap (λ (σ : List Store). planOf σ Nothing) (rw (c .before .enum-told .given .1) at (c .before .before .before .fresh-header .ensures))
 
 node-word-requires : tie.Need-node-word-requires
 node-word-requires c κs = search needs

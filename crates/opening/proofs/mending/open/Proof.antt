@@ -24,7 +24,8 @@ same-length c = search needs
 returns : tie.Need-returns
 returns c =
     let x = c .before .before .before .before .before .before .before in
-    rw (c .refused .ensures) (open-wrong (x .args .pool .now) (c .before .before .before .capacity .ensures .0) (x .args .map .now) (c .before .enum-told .given .1))
+    rw (c .refused .ensures)
+    (open-wrong (x .args .pool .now) (c .before .before .before .capacity .ensures .0) (x .args .map .now) (c .before .enum-told .given .1))
 
 mul-if1 : tie.Need-mul-if1
 mul-if1 c = let z = rw (c .before .n .given .1) at (c .before .before .before .capacity .ensures .1) in omega arith
@@ -61,7 +62,8 @@ returns-3 : tie.Need-returns-3
 returns-3 c =
     let x = c .before .before .before .before .before .before .before in
     let y = x .before .before .before .before .before .before .before .before in
-    c .before .before .before .before .open-sized .ensures ∙ open-holds (y .args .pool .now) (x .before .before .before .before .capacity .ensures .0) (y .args .map .now)
+    c .before .before .before .before .open-sized .ensures
+    ∙ open-holds (y .args .pool .now) (x .before .before .before .before .capacity .ensures .0) (y .args .map .now)
     (x .before .before .n .given .1) (x .if1 .left)
 
 pub open-spec : {M : Type 1} → statement M

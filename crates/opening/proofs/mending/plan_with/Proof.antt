@@ -32,7 +32,8 @@ same-length-2 c = search needs
 returns-2 : tie.Need-returns-2
 returns-2 c =
     let x = c .before .before .before .before .before in
-    plan-first (x .before .before .before .before .args .pool .now) (x .before .before .before .before .args .n) (x .survey .ensures) (c .before .before .if1 .left)
+    plan-first (x .before .before .before .before .args .pool .now) (x .before .before .before .before .args .n) (x .survey .ensures)
+    (c .before .before .if1 .left)
     (c .mend-first .ensures)
 
 pub plan-with-spec : {M : Type 1} → statement M

@@ -38,7 +38,9 @@ leaf-key-requires : tie.Need-leaf-key-requires
 leaf-key-requires c κs = (c .before .before .before .before .before .pre .0, stands c .within)
 
 returns-2 : tie.Need-returns-2
-returns-2 c = delete-absent (walked (c .before .before .before .before .before)) (c .before .before .before .end .given .1) (c .before .leaf-key .ensures) (c .if1 .taken)
+returns-2 c =
+    delete-absent (walked (c .before .before .before .before .before)) (c .before .before .before .end .given .1) (c .before .leaf-key .ensures)
+    (c .if1 .taken)
 
 empty-requires : tie.Need-empty-requires
 empty-requires c κs = search needs
@@ -48,7 +50,9 @@ returns-3 c =
     let at-if1 = c .before .before .before in
     let at-leaf-key = at-if1 .before in
     let at-end = at-leaf-key .before .before in
-    c .empty .ensures ∙ delete-root (walked (c .before .before .before .before .before .before .before .before)) (at-end .end .given .1) (at-leaf-key .leaf-key .ensures) (at-if1 .if1 .left) (c .before .if2 .taken)
+    c .empty .ensures
+    ∙ delete-root (walked (c .before .before .before .before .before .before .before .before)) (at-end .end .given .1)
+    (at-leaf-key .leaf-key .ensures) (at-if1 .if1 .left) (c .before .if2 .taken)
 
 unlink-requires : tie.Need-unlink-requires
 unlink-requires c κs = let i = stands (c .before .before .before .before) .inside in
@@ -60,7 +64,9 @@ returns-4 c =
     let at-if1 = c .before .before .before in
     let at-leaf-key = at-if1 .before in
     let at-end = at-leaf-key .before .before in
-    c .unlink .ensures ∙ delete-below (walked (c .before .before .before .before .before .before .before .before)) (at-end .end .given .1) (at-leaf-key .leaf-key .ensures) (at-if1 .if1 .left) (c .before .if2 .left)
+    c .unlink .ensures
+    ∙ delete-below (walked (c .before .before .before .before .before .before .before .before)) (at-end .end .given .1)
+    (at-leaf-key .leaf-key .ensures) (at-if1 .if1 .left) (c .before .if2 .left)
 
 pub find-removal-spec : {M : Type 1} → statement M
 find-removal-spec =

@@ -64,7 +64,15 @@ returns-3 c =
     let at-b = at-lowest-leaf .before .before in
     let at-accept = at-b .before .before in
     let at-header = at-accept .before in
-    rw (← at-header .header .ensures, ← at-accept .accept .ensures .0, at-b .b .given .1, ← at-lowest-leaf .lowest-leaf .ensures, at-near .near .given .1, at-node-word .node-word .ensures, c .before .pack .ensures)
+    rw (
+      ← at-header .header .ensures,
+      ← at-accept .accept .ensures .0,
+      at-b .b .given .1,
+      ← at-lowest-leaf .lowest-leaf .ensures,
+      at-near .near .given .1,
+      at-node-word .node-word .ensures,
+      c .before .pack .ensures,
+    )
 
 pub lift-spec : {M : Type 1} → statement M
 lift-spec =

@@ -19,7 +19,9 @@ enum-known-j : tie.Need-enum-known-j
 enum-known-j c = search needs
 
 lift-requires : tie.Need-lift-requires
-lift-requires c κs = let s = c .before .before .before .before .before in (s .pre .0, s .pre .1, s .pre .2, s .pre .3, rw (c .before .j .given .1) at (c .before .before .before .reference .ensures .1))
+lift-requires c κs =
+    let s = c .before .before .before .before .before in
+    (s .pre .0, s .pre .1, s .pre .2, s .pre .3, rw (c .before .j .given .1) at (c .before .before .before .reference .ensures .1))
 
 enum-told-3 : tie.Need-enum-told-3
 enum-told-3 c = search needs

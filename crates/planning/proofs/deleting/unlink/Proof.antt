@@ -27,7 +27,13 @@ returns-3 c =
     let at-if2 = c .before .before in
     let at-if1 = at-if2 .before in
     let at-children = at-if1 .before in
-    rw (← at-children .children .ensures, le-ltb _ _ (at-if1 .if1 .left), le-ltb _ _ (at-if2 .if2 .left), ← c .before .other-child .ensures, le-ltb _ _ (c .if3 .taken))
+    rw (
+      ← at-children .children .ensures,
+      le-ltb _ _ (at-if1 .if1 .left),
+      le-ltb _ _ (at-if2 .if2 .left),
+      ← c .before .other-child .ensures,
+      le-ltb _ _ (c .if3 .taken),
+    )
 
 child-requires : tie.Need-child-requires
 child-requires c κs = search needs
@@ -42,7 +48,14 @@ returns-4 c =
     let at-if2 = at-other-child .before in
     let at-if1 = at-if2 .before in
     let at-children = at-if1 .before in
-    rw (← at-children .children .ensures, le-ltb _ _ (at-if1 .if1 .left), le-ltb _ _ (at-if2 .if2 .left), ← at-other-child .other-child .ensures, lt-ltb _ _ (at-if3 .if3 .left), ← c .before .child .ensures) (c .merge .ensures)
+    rw (
+      ← at-children .children .ensures,
+      le-ltb _ _ (at-if1 .if1 .left),
+      le-ltb _ _ (at-if2 .if2 .left),
+      ← at-other-child .other-child .ensures,
+      lt-ltb _ _ (at-if3 .if3 .left),
+      ← c .before .child .ensures,
+    ) (c .merge .ensures)
 
 pub unlink-spec : {M : Type 1} → statement M
 unlink-spec =

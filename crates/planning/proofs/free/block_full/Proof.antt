@@ -39,8 +39,11 @@ loop-again c =
     let at-loop = c .before .before .before in
     let start = at-loop .before in
     let a = start .args in
-    let l = at-loop .loop in
-    (omega arith, ⊎-elim (λ w. w .1 ∙ block-open (a .map .now) (a .at) (l .k) (w .0 .taken)) (λ w. w .1 ∙ block-on (a .map .now) (a .at) (l .k) (l .full) (l .inv .1) (w .0 .left)) (c .if1 .came))
+    let l = at-loop .loop in (
+      omega arith,
+      ⊎-elim (λ w. w .1 ∙ block-open (a .map .now) (a .at) (l .k) (w .0 .taken))
+          (λ w. w .1 ∙ block-on (a .map .now) (a .at) (l .k) (l .full) (l .inv .1) (w .0 .left)) (c .if1 .came),
+    )
 
 returns : tie.Need-returns Inv-loop μ-loop
 returns c =

@@ -39,8 +39,11 @@ loop-again c =
     let start = at-loop .before .before in
     let a = start .args in
     let l = at-loop .loop in
-    let here = c .before .free-or-past .ensures in
-    (omega arith, ⊎-elim (λ w. rw (w .1) (least-lower (a .map .now) (a .at) (l .k) (l .least) _ (l .inv .1) here (w .0 .taken))) (λ w. rw (w .1) (least-kept (a .map .now) (a .at) (l .k) (l .least) _ (l .inv .1) here (w .0 .left))) (c .if1 .came))
+    let here = c .before .free-or-past .ensures in (
+      omega arith,
+      ⊎-elim (λ w. rw (w .1) (least-lower (a .map .now) (a .at) (l .k) (l .least) _ (l .inv .1) here (w .0 .taken)))
+          (λ w. rw (w .1) (least-kept (a .map .now) (a .at) (l .k) (l .least) _ (l .inv .1) here (w .0 .left))) (c .if1 .came),
+    )
 
 cast-result : tie.Need-cast-result Inv-loop μ-loop
 cast-result c = search needs

@@ -37,8 +37,11 @@ loop-less c = search needs
 loop-again : tie.Need-loop-again Inv-loop μ-loop
 loop-again c =
     let l = c .before .before .before in
-    let a = l .before .before .args in
-    (omega arith, free-past (a .map .now) (l .loop .i) (a .to) 64 (omega arith) (eqb-true _ _ (sym (c .before .block-full .ensures) ∙ not-false _ (c .if1 .left))) ∙ l .loop .inv .1)
+    let a = l .before .before .args in (
+      omega arith,
+      free-past (a .map .now) (l .loop .i) (a .to) 64 (omega arith)
+          (eqb-true _ _ (sym (c .before .block-full .ensures) ∙ not-false _ (c .if1 .left))) ∙ l .loop .inv .1,
+    )
 
 returns-2 : tie.Need-returns-2 Inv-loop μ-loop
 returns-2 c = c .before .loop .inv

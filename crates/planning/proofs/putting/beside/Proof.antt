@@ -43,7 +43,9 @@ cleft-requires-2 : tie.Need-cleft-requires-2
 cleft-requires-2 c κs = node-at (walked (c .before .before .before .before .before)) (c .before .before .end2 .given .1)
 
 returns-4 : tie.Need-returns-4
-returns-4 c = node-apart (walked (c .before .before .before .before .before .before)) _ _ (c .before .before .before .end2 .given .1) (c .before .if2 .taken) (c .cleft2 .ensures)
+returns-4 c =
+    node-apart (walked (c .before .before .before .before .before .before)) _ _ (c .before .before .before .end2 .given .1) (c .before .if2 .taken)
+    (c .cleft2 .ensures)
 
 add-if3 : tie.Need-add-if3
 add-if3 c =

@@ -47,7 +47,8 @@ returns-3 c =
     let at-lowest-leaf = at-near .before .before in
     let at-if1 = at-lowest-leaf .before .before in
     let s = c .before .before .before .before .before .before .before .before .before .before .before in
-    gap-below (s .args .pool .now) _ _ (s .args .s) (at-if1 .if1 .left) (at-lowest-leaf .lowest-leaf .ensures) (s .pre .0) (s .pre .1) (s .pre .4) (at-near .near .given .1) (at-first-diff .first-diff .ensures) (c .if2 .taken)
+    gap-below (s .args .pool .now) _ _ (s .args .s) (at-if1 .if1 .left) (at-lowest-leaf .lowest-leaf .ensures) (s .pre .0) (s .pre .1) (s .pre .4)
+    (at-near .near .given .1) (at-first-diff .first-diff .ensures) (c .if2 .taken)
 
 beside-requires : tie.Need-beside-requires
 beside-requires c κs = search needs

@@ -29,7 +29,8 @@ returns-3 : tie.Need-returns-3
 returns-3 c =
     let t = c .before .before .before .before in
     let s = t .before .before .before .before in
-    leaf-apart-here (s .args .pool .now) _ (s .pre .2) (t .before .before .leaf-key .ensures) (s .pre .0) (t .before .if1 .left) (s .pre .1) (t .first-diff .ensures)
+    leaf-apart-here (s .args .pool .now) _ (s .pre .2) (t .before .before .leaf-key .ensures) (s .pre .0) (t .before .if1 .left) (s .pre .1)
+    (t .first-diff .ensures)
     (c .before .before .before .if2 .left) (c .before .if3 .taken) (c .cleft .ensures)
 
 beside-requires : tie.Need-beside-requires

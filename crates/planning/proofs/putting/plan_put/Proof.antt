@@ -48,7 +48,9 @@ plan-at-requires c κs =
 returns-3 : tie.Need-returns-3
 returns-3 c =
     let n = c .before .before .before .before in
-    c .plan-at .ensures ∙ ap plannedOf (put-placed _ _ _ _ (n .before .before .capacity .ensures .0) (n .n .given .1) (c .before .before .if1 .left) (c .before .find-place .ensures))
+    c .plan-at .ensures
+    ∙ ap plannedOf
+    (put-placed _ _ _ _ (n .before .before .capacity .ensures .0) (n .n .given .1) (c .before .before .if1 .left) (c .before .find-place .ensures))
 
 pub plan-put-spec : {M : Type 1} → statement M
 plan-put-spec =

@@ -17,12 +17,14 @@ lowest-free-requires-2 c κs = (omega arith, omega arith)
 returns-2 : tie.Need-returns-2
 returns-2 c =
     let s = c .before .before .before .before .before in
-    nodes-full (s .args .map .now) (s .args .n) (c .before .before .before .lowest-free .ensures) (s .pre .1) (c .before .lowest-free2 .ensures) (omega arith) (c .if2 .taken)
+    nodes-full (s .args .map .now) (s .args .n) (c .before .before .before .lowest-free .ensures) (s .pre .1) (c .before .lowest-free2 .ensures)
+    (omega arith) (c .if2 .taken)
 
 returns-3 : tie.Need-returns-3
 returns-3 c =
     let s = c .before .before .before .before .before in
-    room-there (s .args .map .now) (s .args .n) (c .before .before .before .lowest-free .ensures) (s .pre .1) (c .before .lowest-free2 .ensures) (omega arith) (omega arith)
+    room-there (s .args .map .now) (s .args .n) (c .before .before .before .lowest-free .ensures) (s .pre .1) (c .before .lowest-free2 .ensures)
+    (omega arith) (omega arith)
 
 pub find-room-spec : {M : Type 1} → statement M
 find-room-spec =

@@ -53,8 +53,11 @@ loop-again : tie.Need-loop-again Inv-loop μ-loop
 loop-again c =
     let at-loop = c .before .before in
     let a = at-loop .before .before .before .args in
-    let l = at-loop .loop in
-    (omega arith, filled-on 17 (headerOf (a .s .depth) (a .s .diff - a .s .depth) (a .key) ∷ []) (splitChild (a .s) (a .leaf) (a .key)) (l .c) (omega arith) (l .inv .1) (c .split-child .ensures))
+    let l = at-loop .loop in (
+      omega arith,
+      filled-on 17 (headerOf (a .s .depth) (a .s .diff - a .s .depth) (a .key) ∷ []) (splitChild (a .s) (a .leaf) (a .key)) (l .c)
+          (omega arith) (l .inv .1) (c .split-child .ensures),
+    )
 
 returns : tie.Need-returns Inv-loop μ-loop
 unfolding tab

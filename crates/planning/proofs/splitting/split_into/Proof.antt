@@ -131,8 +131,11 @@ then-requires-5 : tie.Need-then-requires-5
 then-requires-5 c κs =
     let at-then2 = c .before .before .before .before .before .before .before .before .before .before in
     let at-then = at-then2 .before .before in
-    let h = sizes (at-then .before .before) in
-    (omega (arith, followed-count _ _ _ (c .before .then4 .ensures), followed-count _ _ _ (at-then2 .then2 .ensures), followed-count _ _ _ (at-then .then .ensures)), omega arith)
+    let h = sizes (at-then .before .before) in (
+      omega
+          (arith, followed-count _ _ _ (c .before .then4 .ensures), followed-count _ _ _ (at-then2 .then2 .ensures), followed-count _ _ _ (at-then .then .ensures)),
+      omega arith,
+    )
 
 made-requires-2 : tie.Need-made-requires-2
 made-requires-2 c κs = search needs

@@ -161,8 +161,12 @@ loop-again : tie.Need-loop-again Inv-loop μ-loop
 loop-again c =
     let t = c .before .before .before .before .before in
     let i = at-loop t .loop .inv in
-    let d = c .before .digit in
-    (i .0, comes-below (i .1) (node (c .before .before .before)) (d .ensures) (ap (λ at. wordAt (start t .args .pool .now) (at + 1 + d .result)) (at-word t .node-word .ensures)), i .2)
+    let d = c .before .digit in (
+      i .0,
+      comes-below (i .1) (node (c .before .before .before)) (d .ensures)
+          (ap (λ at. wordAt (start t .args .pool .now) (at + 1 + d .result)) (at-word t .node-word .ensures)),
+      i .2,
+    )
 
 reference-requires-2 : tie.Need-reference-requires-2 Inv-loop μ-loop
 reference-requires-2 c κs = search needs

@@ -122,19 +122,23 @@ visit-node-calls t = (
 visit-node-sub-accept : (t : ℕ) → visit-node-lts.Need-sub-accept (visit-node-calls t) (visit-node-at t) visit-node.Post visit-node-Inv-loop visit-node-μ-loop
 visit-node-sub-accept t c = search needs
 
-visit-node-header-requires : (t : ℕ) → visit-node-lts.Need-header-requires (visit-node-calls t) (visit-node-at t) visit-node.Post visit-node-Inv-loop visit-node-μ-loop
+visit-node-header-requires : (t : ℕ)
+    → visit-node-lts.Need-header-requires (visit-node-calls t) (visit-node-at t) visit-node.Post visit-node-Inv-loop visit-node-μ-loop
 visit-node-header-requires t c κs = search needs
 
-visit-node-accept-requires : (t : ℕ) → visit-node-lts.Need-accept-requires (visit-node-calls t) (visit-node-at t) visit-node.Post visit-node-Inv-loop visit-node-μ-loop
+visit-node-accept-requires : (t : ℕ)
+    → visit-node-lts.Need-accept-requires (visit-node-calls t) (visit-node-at t) visit-node.Post visit-node-Inv-loop visit-node-μ-loop
 visit-node-accept-requires t c κs = search needs
 
-visit-node-enum-known-b : (t : ℕ) → visit-node-lts.Need-enum-known-b (visit-node-calls t) (visit-node-at t) visit-node.Post visit-node-Inv-loop visit-node-μ-loop
+visit-node-enum-known-b : (t : ℕ)
+    → visit-node-lts.Need-enum-known-b (visit-node-calls t) (visit-node-at t) visit-node.Post visit-node-Inv-loop visit-node-μ-loop
 visit-node-enum-known-b t c = search needs
 
 visit-node-enum-told : (t : ℕ) → visit-node-lts.Need-enum-told (visit-node-calls t) (visit-node-at t) visit-node.Post visit-node-Inv-loop visit-node-μ-loop
 visit-node-enum-told t c = search needs
 
-visit-node-spoil-requires : (t : ℕ) → visit-node-lts.Need-spoil-requires (visit-node-calls t) (visit-node-at t) visit-node.Post visit-node-Inv-loop visit-node-μ-loop
+visit-node-spoil-requires : (t : ℕ)
+    → visit-node-lts.Need-spoil-requires (visit-node-calls t) (visit-node-at t) visit-node.Post visit-node-Inv-loop visit-node-μ-loop
 visit-node-spoil-requires t c κs = search needs
 
 visit-node-returns : (t : ℕ) → visit-node-lts.Need-returns (visit-node-calls t) (visit-node-at t) visit-node.Post visit-node-Inv-loop visit-node-μ-loop
@@ -142,16 +146,20 @@ visit-node-returns t c =
     let h = c .before .before .before in
     let a = h .before .before .before .before .before .args in
     let v = visit (a .keys .now) (a .values .now) (a .s) in
-    rw (c .spoil .ensures) (sym (node-refused (a .pool .now) (a .n) (a .from) (a .j) _ v (h .before .header .ensures) (h .accept .ensures .0) (c .before .enum-told .given .1)))
+    rw (c .spoil .ensures)
+    (sym (node-refused (a .pool .now) (a .n) (a .from) (a .j) _ v (h .before .header .ensures) (h .accept .ensures .0) (c .before .enum-told .given .1)))
 
 -- an accepted branch place leaves fewer digits
-accepted : (t : ℕ) (c : visit-node-lts.After-b (visit-node-calls t) (visit-node-at t) visit-node.Post visit-node-Inv-loop visit-node-μ-loop) → Between (16 - c .before .before .before .before .before .before .before .args .left) (Branch (c .b .given .0 .0))
+accepted : (t : ℕ) (c : visit-node-lts.After-b (visit-node-calls t) (visit-node-at t) visit-node.Post visit-node-Inv-loop visit-node-μ-loop)
+    → Between (16 - c .before .before .before .before .before .before .before .args .left) (Branch (c .b .given .0 .0))
 accepted t c = rw (c .b .given .1) at (c .before .before .accept .ensures .1)
 
-visit-node-next-child-requires : (t : ℕ) → visit-node-lts.Need-next-child-requires (visit-node-calls t) (visit-node-at t) visit-node.Post visit-node-Inv-loop visit-node-μ-loop
+visit-node-next-child-requires : (t : ℕ)
+    → visit-node-lts.Need-next-child-requires (visit-node-calls t) (visit-node-at t) visit-node.Post visit-node-Inv-loop visit-node-μ-loop
 visit-node-next-child-requires t c κs = search needs
 
-visit-node-spoil-requires-2 : (t : ℕ) → visit-node-lts.Need-spoil-requires-2 (visit-node-calls t) (visit-node-at t) visit-node.Post visit-node-Inv-loop visit-node-μ-loop
+visit-node-spoil-requires-2 : (t : ℕ)
+    → visit-node-lts.Need-spoil-requires-2 (visit-node-calls t) (visit-node-at t) visit-node.Post visit-node-Inv-loop visit-node-μ-loop
 visit-node-spoil-requires-2 t c κs = search needs
 
 visit-node-returns-2 : (t : ℕ) → visit-node-lts.Need-returns-2 (visit-node-calls t) (visit-node-at t) visit-node.Post visit-node-Inv-loop visit-node-μ-loop
@@ -161,7 +169,8 @@ visit-node-returns-2 t c =
     let v = visit (a .keys .now) (a .values .now) (a .s) in
     let q = c .before .before .before .before .b .given .1 in
     let e = c .before .before .next-child .ensures in
-    rw (c .spoil2 .ensures) (sym (node-childless (a .pool .now) (a .n) (a .from) (a .j) _ v (h .before .header .ensures) (h .accept .ensures .0) q e (omega arith)))
+    rw (c .spoil2 .ensures)
+    (sym (node-childless (a .pool .now) (a .n) (a .from) (a .j) _ v (h .before .header .ensures) (h .accept .ensures .0) q e (omega arith)))
 
 -- a node with a child is visited over its sixteen
 visits : (t : ℕ) (c : visit-node-lts.Else1 (visit-node-calls t) (visit-node-at t) visit-node.Post visit-node-Inv-loop visit-node-μ-loop)
@@ -179,21 +188,26 @@ visits t c =
 visit-node-loop-holds : (t : ℕ) → visit-node-lts.Need-loop-holds (visit-node-calls t) (visit-node-at t) visit-node.Post visit-node-Inv-loop visit-node-μ-loop
 visit-node-loop-holds t c = (omega arith, refl, refl, kids-first _ _ _ _ _ _ (c .before .next-child .ensures))
 
-visit-node-child-requires : (t : ℕ) → visit-node-lts.Need-child-requires (visit-node-calls t) (visit-node-at t) visit-node.Post visit-node-Inv-loop visit-node-μ-loop
+visit-node-child-requires : (t : ℕ)
+    → visit-node-lts.Need-child-requires (visit-node-calls t) (visit-node-at t) visit-node.Post visit-node-Inv-loop visit-node-μ-loop
 visit-node-child-requires t c κs = search needs
 
-visit-node-visit-end-requires : (t : ℕ) → visit-node-lts.Need-visit-end-requires (visit-node-calls t) (visit-node-at t) visit-node.Post visit-node-Inv-loop visit-node-μ-loop
+visit-node-visit-end-requires : (t : ℕ)
+    → visit-node-lts.Need-visit-end-requires (visit-node-calls t) (visit-node-at t) visit-node.Post visit-node-Inv-loop visit-node-μ-loop
 visit-node-visit-end-requires t c κs = search needs
 
-visit-node-sub-visit-ref : (t : ℕ) → visit-node-lts.Need-sub-visit-ref (visit-node-calls t) (visit-node-at t) visit-node.Post visit-node-Inv-loop visit-node-μ-loop
+visit-node-sub-visit-ref : (t : ℕ)
+    → visit-node-lts.Need-sub-visit-ref (visit-node-calls t) (visit-node-at t) visit-node.Post visit-node-Inv-loop visit-node-μ-loop
 visit-node-sub-visit-ref t c = search needs
 
-visit-node-sub-visit-ref-2 : (t : ℕ) → visit-node-lts.Need-sub-visit-ref-2 (visit-node-calls t) (visit-node-at t) visit-node.Post visit-node-Inv-loop visit-node-μ-loop
+visit-node-sub-visit-ref-2 : (t : ℕ)
+    → visit-node-lts.Need-sub-visit-ref-2 (visit-node-calls t) (visit-node-at t) visit-node.Post visit-node-Inv-loop visit-node-μ-loop
 visit-node-sub-visit-ref-2 t c =
     let z = accepted t (c .before .before .before .before .before .before .before) in
     omega arith
 
-visit-node-visit-ref-requires : (t : ℕ) → visit-node-lts.Need-visit-ref-requires (visit-node-calls t) (visit-node-at t) visit-node.Post visit-node-Inv-loop visit-node-μ-loop
+visit-node-visit-ref-requires : (t : ℕ)
+    → visit-node-lts.Need-visit-ref-requires (visit-node-calls t) (visit-node-at t) visit-node.Post visit-node-Inv-loop visit-node-μ-loop
 visit-node-visit-ref-requires t c κs =
     let z = accepted t (c .before .before .before .before .before .before .before .before .before) in
     let p = c .before .before .before .before .before .before .before .before .before .before .before .before .before .before .before .before .pre .1 in
@@ -218,7 +232,8 @@ visited t c =
 visit-node-same-length : (t : ℕ) → visit-node-lts.Need-same-length (visit-node-calls t) (visit-node-at t) visit-node.Post visit-node-Inv-loop visit-node-μ-loop
 visit-node-same-length t c = visited t (c .before) .0 ∙ c .before .before .before .before .loop .inv .1
 
-visit-node-same-length-2 : (t : ℕ) → visit-node-lts.Need-same-length-2 (visit-node-calls t) (visit-node-at t) visit-node.Post visit-node-Inv-loop visit-node-μ-loop
+visit-node-same-length-2 : (t : ℕ)
+    → visit-node-lts.Need-same-length-2 (visit-node-calls t) (visit-node-at t) visit-node.Post visit-node-Inv-loop visit-node-μ-loop
 visit-node-same-length-2 t c = visited t (c .before) .1 ∙ c .before .before .before .before .loop .inv .2
 
 visit-node-returns-3 : (t : ℕ) → visit-node-lts.Need-returns-3 (visit-node-calls t) (visit-node-at t) visit-node.Post visit-node-Inv-loop visit-node-μ-loop
@@ -229,10 +244,12 @@ visit-node-returns-3 t c =
     let i = c .before .before .before .loop-test .taken in
     kids-over (a .pool .now) (a .n) (a .from) _ (a .j) _ (l .c) (l .inv .3) g i (c .if3 .taken) ∙ sym (visits t (c .before .before .before .before .before))
 
-visit-node-add-next-child : (t : ℕ) → visit-node-lts.Need-add-next-child (visit-node-calls t) (visit-node-at t) visit-node.Post visit-node-Inv-loop visit-node-μ-loop
+visit-node-add-next-child : (t : ℕ)
+    → visit-node-lts.Need-add-next-child (visit-node-calls t) (visit-node-at t) visit-node.Post visit-node-Inv-loop visit-node-μ-loop
 visit-node-add-next-child t c = search needs
 
-visit-node-next-child-requires-2 : (t : ℕ) → visit-node-lts.Need-next-child-requires-2 (visit-node-calls t) (visit-node-at t) visit-node.Post visit-node-Inv-loop visit-node-μ-loop
+visit-node-next-child-requires-2 : (t : ℕ)
+    → visit-node-lts.Need-next-child-requires-2 (visit-node-calls t) (visit-node-at t) visit-node.Post visit-node-Inv-loop visit-node-μ-loop
 visit-node-next-child-requires-2 t c κs = search needs
 
 visit-node-loop-less : (t : ℕ) → visit-node-lts.Need-loop-less (visit-node-calls t) (visit-node-at t) visit-node.Post visit-node-Inv-loop visit-node-μ-loop
@@ -252,10 +269,12 @@ visit-node-loop-again t c =
       kids-next (a .pool .now) (a .n) (a .from) _ (a .j) _ (l .c) (l .inv .3) (g .2) (c .next-child2 .ensures),
     )
 
-visit-node-same-length-3 : (t : ℕ) → visit-node-lts.Need-same-length-3 (visit-node-calls t) (visit-node-at t) visit-node.Post visit-node-Inv-loop visit-node-μ-loop
+visit-node-same-length-3 : (t : ℕ)
+    → visit-node-lts.Need-same-length-3 (visit-node-calls t) (visit-node-at t) visit-node.Post visit-node-Inv-loop visit-node-μ-loop
 visit-node-same-length-3 t c = search needs
 
-visit-node-same-length-4 : (t : ℕ) → visit-node-lts.Need-same-length-4 (visit-node-calls t) (visit-node-at t) visit-node.Post visit-node-Inv-loop visit-node-μ-loop
+visit-node-same-length-4 : (t : ℕ)
+    → visit-node-lts.Need-same-length-4 (visit-node-calls t) (visit-node-at t) visit-node.Post visit-node-Inv-loop visit-node-μ-loop
 visit-node-same-length-4 t c = search needs
 
 visit-node-returns-4 : (t : ℕ) → visit-node-lts.Need-returns-4 (visit-node-calls t) (visit-node-at t) visit-node.Post visit-node-Inv-loop visit-node-μ-loop
@@ -310,7 +329,8 @@ visit-ref-returns-4 : (t : ℕ) → visit-ref-lts.Need-returns-4 (visit-ref-call
 visit-ref-returns-4 t c =
     let m = c .before .before .before .before in
     let r = m .before .before .before .before .before .before in
-    m .visit-node .ensures ∙ sym (visit-node _ _ _ 17 _ _ _ (omega arith) (r .before .if2 .left) (r .reference .ensures .0) (m .before .before .before .before .j .given .1))
+    m .visit-node .ensures
+    ∙ sym (visit-node _ _ _ 17 _ _ _ (omega arith) (r .before .if2 .left) (r .reference .ensures .0) (m .before .before .before .before .j .given .1))
 
 pub +visit-node+visit-ref-spec : {M : Type 1} → statement M
 +visit-node+visit-ref-spec = close μ-visit-node μ-visit-ref (λ t. visit-node-lts.spec (visit-node-calls t)

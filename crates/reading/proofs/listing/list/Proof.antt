@@ -50,7 +50,9 @@ judges : (c : tie.After-new) {v : Visit}
     let n = c .before .before .before .before .n .given .0 .0 in
     v ≡ visitFrom 17 (a .pool .now) n (a .from) 0 (wordAt (a .pool .now) 1) (visit (a .keys .now) (a .values .now) (state 0 0 0))
     → judged v ≡ listOf (a .pool .now) (a .from) (a .keys .now) (a .values .now)
-judges c e = list-judged _ _ _ _ (c .before .before .before .before .before .before .capacity .ensures .0) (c .before .before .before .before .n .given .1) (c .before .before .if1 .left) (c .before .if2 .left) e
+judges c e =
+    list-judged _ _ _ _ (c .before .before .before .before .before .before .capacity .ensures .0) (c .before .before .before .before .n .given .1)
+    (c .before .before .if1 .left) (c .before .if2 .left) e
 
 shared-slice-read-visit-ref : tie.Need-shared-slice-read-visit-ref
 shared-slice-read-visit-ref c =

@@ -18,16 +18,22 @@ shared-slice-read-tag : tie.Need-shared-slice-read-tag
 shared-slice-read-tag c = search needs
 
 returns-3 : tie.Need-returns-3
-returns-3 c = let s = c .before .before .before .before .before .before .args .line .now in sym (one-byte s (c .before .if3 .taken) ∙ simp (eq-eqb (getD s 0 0) _ (c .if4 .taken)))
+returns-3 c =
+    let s = c .before .before .before .before .before .before .args .line .now in sym
+    (one-byte s (c .before .if3 .taken) ∙ simp (eq-eqb (getD s 0 0) _ (c .if4 .taken)))
 
 returns-4 : tie.Need-returns-4
-returns-4 c = let s = c .before .before .before .before .before .before .args .line .now in sym (one-byte s (c .before .if3 .taken) ∙ simp (ne-eqb (getD s 0 0) _ (c .if4 .left)))
+returns-4 c =
+    let s = c .before .before .before .before .before .before .args .line .now in sym
+    (one-byte s (c .before .if3 .taken) ∙ simp (ne-eqb (getD s 0 0) _ (c .if4 .left)))
 
 shared-slice-read-if5 : tie.Need-shared-slice-read-if5
 shared-slice-read-if5 c = search needs
 
 returns-5 : tie.Need-returns-5
-returns-5 c = let s = c .before .before .before .before .before .before .before .args .line .now in sym (more-bytes s (omega arith) (omega arith) ∙ simp (ne-eqb (getD s 1 0) _ (c .if5 .taken)))
+returns-5 c =
+    let s = c .before .before .before .before .before .before .before .args .line .now in sym
+    (more-bytes s (omega arith) (omega arith) ∙ simp (ne-eqb (getD s 1 0) _ (c .if5 .taken)))
 
 sub-tagged : tie.Need-sub-tagged
 sub-tagged c = search needs

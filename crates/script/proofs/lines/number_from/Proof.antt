@@ -35,7 +35,8 @@ returns c =
     let at-with-digit = c .before .before in
     let at-loop-test = at-with-digit .before .before in
     let at-loop = at-loop-test .before in
-    sym (stops _ (at-loop .loop .x) _ _ (at-loop-test .loop-test .taken) (sym (at-with-digit .with-digit .ensures) ∙ c .enum-told .given .1)) ∙ at-loop .loop .inv .1
+    sym (stops _ (at-loop .loop .x) _ _ (at-loop-test .loop-test .taken) (sym (at-with-digit .with-digit .ensures) ∙ c .enum-told .given .1))
+    ∙ at-loop .loop .inv .1
 
 add-i : tie.Need-add-i Inv-loop μ-loop
 add-i c = search needs
@@ -47,8 +48,11 @@ loop-again : tie.Need-loop-again Inv-loop μ-loop
 loop-again c =
     let at-with-digit = c .before .before .before in
     let at-loop-test = at-with-digit .before .before in
-    let at-loop = at-loop-test .before in
-    (search needs, sym (reads-on _ _ _ _ (at-loop-test .loop-test .taken) _ (sym (at-with-digit .with-digit .ensures) ∙ c .before .y .given .1)) ∙ at-loop .loop .inv .1)
+    let at-loop = at-loop-test .before in (
+      search needs,
+      sym (reads-on _ _ _ _ (at-loop-test .loop-test .taken) _ (sym (at-with-digit .with-digit .ensures) ∙ c .before .y .given .1))
+          ∙ at-loop .loop .inv .1,
+    )
 
 returns-2 : tie.Need-returns-2 Inv-loop μ-loop
 returns-2 c = sym (read-out _ _ _ _ (c .loop-test .left)) ∙ c .before .loop .inv .1

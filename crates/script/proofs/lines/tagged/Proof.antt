@@ -45,7 +45,9 @@ returns-4 c = c .cut .ensures ∙ rw (c .before .before .match .keys4, c .before
 
 returns-5 : tie.Need-returns-5
 unfolding taggedOf
-returns-5 c = simp (ne-eqb _ _ (c .match .rest .0 .0 .0 .1), ne-eqb _ _ (c .match .rest .0 .0 .1), ne-eqb _ _ (c .match .rest .0 .1), ne-eqb _ _ (c .match .rest .1))
+returns-5 c =
+    simp
+    (ne-eqb _ _ (c .match .rest .0 .0 .0 .1), ne-eqb _ _ (c .match .rest .0 .0 .1), ne-eqb _ _ (c .match .rest .0 .1), ne-eqb _ _ (c .match .rest .1))
 
 pub tagged-spec : {M : Type 1} → statement M
 tagged-spec =

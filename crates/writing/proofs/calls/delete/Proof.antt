@@ -63,7 +63,8 @@ returns-3 c =
     let at-if1 = at-find-removal .before .before in
     let at-n = at-if1 .before .before in
     let at-capacity = at-n .before .before in
-    delete-made _ _ _ (at-capacity .capacity .ensures .0) (at-n .n .given .1) (at-if1 .if1 .left) (at-find-removal .find-removal .ensures) (at-remove .remove .ensures)
+    delete-made _ _ _ (at-capacity .capacity .ensures .0) (at-n .n .given .1) (at-if1 .if1 .left) (at-find-removal .find-removal .ensures)
+    (at-remove .remove .ensures)
 
 pub delete-spec : {M : Type 1} → statement M
 delete-spec =

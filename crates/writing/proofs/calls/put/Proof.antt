@@ -71,7 +71,9 @@ returns-3 c =
     let at-if1 = at-find-place .before .before in
     let at-n = at-if1 .before .before in
     let at-capacity = at-n .before .before in
-    put-made _ _ _ _ (put-placed _ _ _ _ (at-capacity .capacity .ensures .0) (at-n .n .given .1) (at-if1 .if1 .left) (at-find-place .find-place .ensures)) (at-put-at .put-at .ensures)
+    put-made _ _ _ _
+    (put-placed _ _ _ _ (at-capacity .capacity .ensures .0) (at-n .n .given .1) (at-if1 .if1 .left) (at-find-place .find-place .ensures))
+    (at-put-at .put-at .ensures)
 
 pub put-spec : {M : Type 1} → statement M
 put-spec =

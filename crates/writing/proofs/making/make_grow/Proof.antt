@@ -18,7 +18,8 @@ returns c =
     let at-lowest-free = c .before .before in
     let start = at-lowest-free .before .before .before .before in
     let a = start .args in
-    rw (c .refused .ensures) (grow-full (a .pool .now) (a .map .now) (a .n) (a .key) (a .value) (a .at) (at-lowest-free .lowest-free .ensures) (c .before .if1 .taken))
+    rw (c .refused .ensures)
+    (grow-full (a .pool .now) (a .map .now) (a .n) (a .key) (a .value) (a .at) (at-lowest-free .lowest-free .ensures) (c .before .if1 .taken))
 
 make-leaf-requires : tie.Need-make-leaf-requires
 make-leaf-requires c κs = search needs
@@ -48,7 +49,8 @@ returns-2 c =
     let at-lowest-free = at-if1 .before in
     let start = at-lowest-free .before .before .before .before in
     let a = start .args in
-    grow-made (a .pool .now) (a .map .now) (a .n) (a .key) (a .value) (a .at) (at-lowest-free .lowest-free .ensures) (at-if1 .if1 .left) (at-make-leaf .make-leaf .ensures) (at-leaf-ref .leaf-ref .ensures) (at-store .store .ensures) (at-take-effect .take-effect .ensures)
+    grow-made (a .pool .now) (a .map .now) (a .n) (a .key) (a .value) (a .at) (at-lowest-free .lowest-free .ensures) (at-if1 .if1 .left)
+    (at-make-leaf .make-leaf .ensures) (at-leaf-ref .leaf-ref .ensures) (at-store .store .ensures) (at-take-effect .take-effect .ensures)
 
 pub make-grow-spec : {M : Type 1} → statement M
 make-grow-spec =

@@ -26,7 +26,8 @@ returns c =
     let at-store = at-store2 .before .before .before .before in
     let at-leaf-word = at-store .before .before in
     let start = at-leaf-word .before .before in
-    leaf-made _ (leafWord (start .args .leaf)) _ _ (rw (at-leaf-word .leaf-word .ensures) at (at-store .store .ensures)) (rw (at-leaf-word .leaf-word .ensures) at (at-store2 .store2 .ensures))
+    leaf-made _ (leafWord (start .args .leaf)) _ _ (rw (at-leaf-word .leaf-word .ensures) at (at-store .store .ensures))
+    (rw (at-leaf-word .leaf-word .ensures) at (at-store2 .store2 .ensures))
 
 pub make-leaf-spec : {M : Type 1} → statement M
 make-leaf-spec =

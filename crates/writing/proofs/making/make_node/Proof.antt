@@ -56,8 +56,12 @@ loop-again c =
     let at-loop = at-split-child .before .before .before in
     let start = at-loop .before .before .before .before .before .before .before .before in
     let l = at-loop .loop in
-    let a = start .args in
-    (omega arith, omega arith, children-on _ (a .word + 1) (splitChild (a .s) (a .leaf) (a .key)) (l .c) (l .inv .2) (at-split-child .split-child .ensures) (at-set-word2 .set-word2 .ensures))
+    let a = start .args in (
+      omega arith,
+      omega arith,
+      children-on _ (a .word + 1) (splitChild (a .s) (a .leaf) (a .key)) (l .c) (l .inv .2)
+          (at-split-child .split-child .ensures) (at-set-word2 .set-word2 .ensures),
+    )
 
 same-length : tie.Need-same-length Inv-loop μ-loop
 same-length c = search needs
@@ -70,7 +74,8 @@ returns c =
     let l = c .before .loop in
     let a = start .args in
     let c16 : l .c ≡ 16 = omega arith in
-    node-made (a .pool .now) (a .word) (headerOf (a .s .depth) (a .s .diff - a .s .depth) (a .key)) (tab 16 (splitChild (a .s) (a .leaf) (a .key))) (rw (at-pack .pack .ensures) at (at-set-word .set-word .ensures)) (rw c16 at (l .inv .2))
+    node-made (a .pool .now) (a .word) (headerOf (a .s .depth) (a .s .diff - a .s .depth) (a .key)) (tab 16 (splitChild (a .s) (a .leaf) (a .key)))
+    (rw (at-pack .pack .ensures) at (at-set-word .set-word .ensures)) (rw c16 at (l .inv .2))
 
 pub make-node-spec : {M : Type 1} → statement M
 make-node-spec =

@@ -62,7 +62,8 @@ make-target-requires : tie.Need-make-target-requires
 make-target-requires c κs = search needs
 
 node-ref-requires : tie.Need-node-ref-requires
-node-ref-requires c κs = let h = slots (c .before .before .before .before .before .before .before .before .before .before .before .before .before .before) in omega arith
+node-ref-requires c κs =
+    let h = slots (c .before .before .before .before .before .before .before .before .before .before .before .before .before .before) in omega arith
 
 store-requires : tie.Need-store-requires
 store-requires c κs = search needs
@@ -95,7 +96,10 @@ returns-2 c =
     let at-find-room = at-leaf .before .before in
     let start = at-find-room .before .before .before .before in
     let a = start .args in
-    split-made (a .pool .now) (a .map .now) (a .n) (a .s) (a .key) (a .value) (a .target) (at-find-room .find-room .ensures) (at-leaf .leaf .given .1) (at-make-leaf .make-leaf .ensures) (rw (at-node-word .node-word .ensures) at (at-make-node .make-node .ensures)) (at-make-target .make-target .ensures .0) (at-make-target .make-target .ensures .1) (at-node-ref .node-ref .ensures) (at-store .store .ensures) (at-take-effect .take-effect .ensures)
+    split-made (a .pool .now) (a .map .now) (a .n) (a .s) (a .key) (a .value) (a .target) (at-find-room .find-room .ensures) (at-leaf .leaf .given .1)
+    (at-make-leaf .make-leaf .ensures) (rw (at-node-word .node-word .ensures) at (at-make-node .make-node .ensures))
+    (at-make-target .make-target .ensures .0) (at-make-target .make-target .ensures .1) (at-node-ref .node-ref .ensures) (at-store .store .ensures)
+    (at-take-effect .take-effect .ensures)
 
 pub make-split-spec : {M : Type 1} → statement M
 make-split-spec =

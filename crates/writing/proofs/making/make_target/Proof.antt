@@ -61,7 +61,11 @@ returns-2 c =
     let at-node-word = at-pack .before .before .before .before in
     let at-target = at-node-word .before .before in
     let start = at-target .before .before .before in
-    rw (at-target .target .given .1) (refl, rw (← at-node-word .node-word .ensures, ← at-pack .pack .ensures) (stored (start .args .pool .now) (at-node-word .node-word .result) (at-pack .pack .result) (at-store .store .ensures)))
+    rw (at-target .target .given .1) (
+      refl,
+      rw (← at-node-word .node-word .ensures, ← at-pack .pack .ensures)
+          (stored (start .args .pool .now) (at-node-word .node-word .result) (at-pack .pack .result) (at-store .store .ensures)),
+    )
 
 pub make-target-spec : {M : Type 1} → statement M
 make-target-spec =

@@ -50,7 +50,8 @@ returns c =
     let at-leaf-word = at-store .before in
     let at-place = at-leaf-word .before .before .before in
     let start = at-place .before .before .before .before in
-    rw (at-place .place .given .1, ← at-leaf-word .leaf-word .ensures) (one-made (start .args .pool .now) (start .args .map .now) _ _ Nothing (at-store .store .ensures) refl)
+    rw (at-place .place .given .1, ← at-leaf-word .leaf-word .ensures)
+    (one-made (start .args .pool .now) (start .args .map .now) _ _ Nothing (at-store .store .ensures) refl)
 
 same-length-2 : tie.Need-same-length-2
 same-length-2 c = search needs

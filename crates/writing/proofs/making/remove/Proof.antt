@@ -56,7 +56,8 @@ returns-2 c =
     let at-store = at-take-effect .before .before .before .before in
     let at-removal2 = at-store .before .before .before in
     let start = at-removal2 .before .before .before .before in
-    rw (at-removal2 .removal2 .given .1) (one-made _ (start .args .map .now) _ _ (FreesLeaf (at-removal2 .removal2 .given .0 .1 .0)) (at-store .store .ensures) (at-take-effect .take-effect .ensures))
+    rw (at-removal2 .removal2 .given .1) (one-made _ (start .args .map .now) _ _ (FreesLeaf (at-removal2 .removal2 .given .0 .1 .0))
+    (at-store .store .ensures) (at-take-effect .take-effect .ensures))
 
 same-length-3 : tie.Need-same-length-3
 same-length-3 c = search needs
@@ -71,7 +72,8 @@ returns-3 c =
     let at-removal3 = at-store2 .before .before .before in
     let start = at-removal3 .before .before .before .before in
     let d = at-removal3 .removal3 .given .0 in
-    rw (at-removal3 .removal3 .given .1) (one-made _ (start .args .map .now) _ _ (FreesBoth (d .1 .1 .0) (d .1 .1 .1 .0)) (at-store2 .store2 .ensures) (at-take-effect2 .take-effect2 .ensures))
+    rw (at-removal3 .removal3 .given .1)
+    (one-made _ (start .args .map .now) _ _ (FreesBoth (d .1 .1 .0) (d .1 .1 .1 .0)) (at-store2 .store2 .ensures) (at-take-effect2 .take-effect2 .ensures))
 
 same-length-5 : tie.Need-same-length-5
 same-length-5 c = search needs
@@ -87,7 +89,8 @@ returns-4 c =
     let at-removal4 = at-store3 .before .before .before in
     let start = at-removal4 .before .before .before .before in
     let d = at-removal4 .removal4 .given .0 in
-    rw (at-removal4 .removal4 .given .1) (two-made _ (start .args .map .now) _ _ _ _ (FreesBoth (d .1 .1 .1 .1 .0) (d .1 .1 .1 .1 .1 .0)) (at-store3 .store3 .ensures) (at-store4 .store4 .ensures) (at-take-effect3 .take-effect3 .ensures))
+    rw (at-removal4 .removal4 .given .1) (two-made _ (start .args .map .now) _ _ _ _ (FreesBoth (d .1 .1 .1 .1 .0) (d .1 .1 .1 .1 .1 .0))
+    (at-store3 .store3 .ensures) (at-store4 .store4 .ensures) (at-take-effect3 .take-effect3 .ensures))
 
 pub remove-spec : {M : Type 1} → statement M
 remove-spec =
