@@ -4,6 +4,7 @@ use Rattle.demands.specs.Claims.{Claims}
 use Rattle.demands.proofs.Demand1.{demand1}
 use Rattle.demands.proofs.Demand2.{demand2-holds}
 use Rattle.demands.proofs.Demand3.{demand3-in-order, demand3-loosely}
+use Rattle.demands.proofs.Stales.{one-stale-in-order, one-stale-loosely}
 use Rattle.demands.proofs.Opening.{opens}
 use Rattle.demands.proofs.Unique.{unique}
 use Rattle.demands.proofs.Cases.{cases-hold}
@@ -13,7 +14,9 @@ claims = record {
   demand1 = demand1;
   demand2 = demand2-holds;
   demand3 = demand3-in-order;
+  one-stale = one-stale-in-order;
   demand3-more = demand3-loosely;
+  one-stale-more = one-stale-loosely;
   opening = opens;
   one-outcome = unique;
   examples = cases-hold;

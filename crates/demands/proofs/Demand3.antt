@@ -11,6 +11,7 @@ use lib.Seq.{getD-set-same, getD-set-other}
 use Rattle.pool.specs.Sizes.{sizeOf, bytesOf, Sized, Measured}
 use Rattle.pool.specs.declared.Size.{Size}
 use Rattle.pool.specs.declared.Size.the-variants.{Holds, Wrong}
+use Rattle.pool.specs.Places.{wordAt}
 use Rattle.pool.proofs.Sizes.{size-fits}
 use Rattle.tree.specs.Tree.{empty, mult, find}
 use Rattle.tree.specs.Stores.{Store}
@@ -29,6 +30,10 @@ use Rattle.demands.proofs.Readings.{state-reads, state-reading, state-c
 use Rattle.demands.proofs.Operations.{turns, done-state, refused-state, cut-state, in-order-loosely}
 
 -- ---- a freshly formatted pool
+-- its root is empty
+pub root-blank : (n : ℕ) (pool : List ℕ) → 1 < length pool → wordAt (set (set pool 1 0) 0 n) 1 ≡ 0
+root-blank n pool l = getD-set-other (set pool 1 0) 0 1 n 0 (λ z. omega arith) ∙ getD-set-same pool 1 0 0 l
+
 module _ (n : ℕ) (pool map : List ℕ) (sized : Sized pool n) (bytes : length map ≡ bytesOf n) where
   blank-state : State n (set (set pool 1 0) 0 n) (some (replicate (length map) 0)) blank
   unfolding find mult
@@ -39,8 +44,7 @@ module _ (n : ℕ) (pool map : List ℕ) (sized : Sized pool n) (bytes : length 
     holds = record {
       size = omega (arith, length-set (set pool 1 0) 0 n, length-set pool 1 0, sized .words);
       first = getD-set-same (set pool 1 0) 0 n 0 (omega (arith, length-set pool 1 0, sized .words, sized .some));
-      held = held-empty 16 n (mem (set (set pool 1 0) 0 n))
-          (getD-set-other (set pool 1 0) 0 1 n 0 (λ z. omega arith) ∙ getD-set-same pool 1 0 0 (omega (arith, sized .words, sized .some)));
+      held = held-empty 16 n (mem (set (set pool 1 0) 0 n)) (root-blank n pool (omega (arith, sized .words, sized .some)));
     };
     table = λ k. refl;
     names = λ k v e. let z : _≡_ {A = ℕ} 0 1 = cc in absurd (omega arith);
@@ -93,7 +97,7 @@ module _ {n : ℕ} {pool : List ℕ} {T : Table} where
     marks = S .marks;
   }
 
-  open-state : State n pool none T → (bytes : List ℕ) → length bytes ≡ bytesOf n → State n (openOf pool bytes .pool) (some (openOf pool bytes .map)) T
+  pub open-state : State n pool none T → (bytes : List ℕ) → length bytes ≡ bytesOf n → State n (openOf pool bytes .pool) (some (openOf pool bytes .map)) T
   open-state S bytes e = rw (open-is n (S .pos) (S .cap) (S .t) pool (S .holds) bytes e) (record {
     pos = S .pos;
     cap = S .cap;
@@ -109,7 +113,7 @@ module _ {n : ℕ} {pool : List ℕ} {T : Table} where
 
 -- ---- every state that is reached
 module _ (C : Cut) (within : (o : Op) (σ τ : List Store) (b : Bool) → 0 < length σ → C o σ τ b → Loosely o σ τ b) where
-  stores-some : {n : ℕ} {pool map : List ℕ} {T : Table} (S : State n pool (some map) T) (o : Op) → planned o pool map .number ≡ 0
+  pub stores-some : {n : ℕ} {pool map : List ℕ} {T : Table} (S : State n pool (some map) T) (o : Op) → planned o pool map .number ≡ 0
       → 0 < length (planned o pool map .stores)
   stores-some S o z =
       let U = turns S o z in

@@ -8,4 +8,5 @@ pub mod Demand1
 pub mod Demand2
 pub mod Demand3
 pub mod Opening
+pub mod Stales
 pub mod Claims

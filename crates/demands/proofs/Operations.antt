@@ -1,7 +1,7 @@
 -- What a put or a delete does to a state, done, refused or cut.
 -- Assumes nothing.
 use mathlib.Core.Path.{_≡_, refl, sym, ap, _∙_, subst}
-use mathlib.Core.Bool.{Bool}
+use mathlib.Core.Bool.{Bool, true, false}
 use mathlib.Core.Option.{none, some}
 use mathlib.Core.List.{List, [], _∷_, _++_}
 use Prim.Native.Nat.{ℕ, zero, suc, _+_, _-_, _<_}
@@ -36,12 +36,12 @@ use Rattle.demands.specs.Demand3.{Op, put, delete, planned, whole, effec
 use Rattle.demands.proofs.States.{State, fits, tree-names, stored, finish-marks}
 
 -- ---- parts
-part-first : (σ ρ τ : List Store) → Part σ τ → Part (σ ++ ρ) τ
+pub part-first : (σ ρ τ : List Store) → Part σ τ → Part (σ ++ ρ) τ
 part-first σ ρ τ done = part-none ρ
 part-first σ ρ τ (kept {σ = σ′} {τ = τ′} p) = kept (part-first σ′ ρ τ′ p)
 part-first σ ρ τ (lost {σ = σ′} {τ = τ′} p) = lost (part-first σ′ ρ τ p)
 
-part-both : (σ ρ τ : List Store) → Part ρ τ → Part (σ ++ ρ) (σ ++ τ)
+pub part-both : (σ ρ τ : List Store) → Part ρ τ → Part (σ ++ ρ) (σ ++ τ)
 part-both [] ρ τ p = p
 part-both (s ∷ σ) ρ τ p = kept (part-both σ ρ τ p)
 
@@ -133,6 +133,7 @@ module _ {n : ℕ} {pool bytes : List ℕ} {T : Table} (S : State n pool (some b
           after = W .after;
           since = W .since;
           becomes = (adds-given T t (W .after) (S .table) k v (takes e) (W .becomes), λ x. omega (arith, W .becomes .slots x, ap (occurs x) frees-none));
+          stales = W .stales;
         };
         inside = subst (λ (d : Decided). Words (λ w. w < length pool) (d .stores)) p (put-inside pool bytes k v);
         above = above;
@@ -154,6 +155,7 @@ module _ {n : ℕ} {pool bytes : List ℕ} {T : Table} (S : State n pool (some b
           after = W .after;
           since = W .since;
           becomes = (removes-without T t (W .after) (S .table) k (frees e) (W .becomes), λ x. omega (arith, W .becomes .slots x, ap (occurs x) takes-none));
+          stales = W .stales;
         };
         inside = subst (λ (d : Decided). Words (λ w. w < length pool) (d .stores)) p (delete-inside pool k);
         above = above;
@@ -245,27 +247,37 @@ module _ {n : ℕ} {pool bytes : List ℕ} {T : Table} (S : State n pool (some b
     stores-are : planned o pool bytes .stores ≡ U .before ++ U .switch ∷ U .rest
     stores-are = ap (λ (d : Decided). d .stores) (U .plan)
 
-  pub cut-state : (o : Op) (z : planned o pool bytes .number ≡ 0) {τ : List Store} {b : Bool} → Loosely o (planned o pool bytes .stores) τ b
-      → State n (made τ pool) none (pick b (effect o T) T)
-  cut-state o z {τ = τ} {b = b} c = go o z (planned o pool bytes .stores) τ b (turns o z .from) (stores-are o z) c
+  -- a cut is before the switch, or since
+  pub cut-case : (P : Op → List Store → Bool → Type 0)
+      → ((o : Op) (z : planned o pool bytes .number ≡ 0) (τ : List Store) → Part (turns o z .before) τ → P o τ false)
+      → ((o : Op) (z : planned o pool bytes .number ≡ 0) (τ : List Store) → Part (turns o z .rest) τ
+      → P o (turns o z .before ++ turns o z .switch ∷ τ) true)
+      → (o : Op) (z : planned o pool bytes .number ≡ 0) {τ : List Store} {b : Bool} → Loosely o (planned o pool bytes .stores) τ b → P o τ b
+  cut-case P before since o z {τ = τ} {b = b} c = go o z (planned o pool bytes .stores) τ b (turns o z .from) (stores-are o z) c
     where
       go : (o : Op) (z : planned o pool bytes .number ≡ 0) (σ τ : List Store) (b : Bool) → From o (U o z .before) (U o z .rest)
-          → σ ≡ U o z .before ++ U o z .switch ∷ U o z .rest → Loosely o σ τ b
-          → State n (made τ pool) none (pick b (effect o T) T)
+          → σ ≡ U o z .before ++ U o z .switch ∷ U o z .rest → Loosely o σ τ b → P o τ b
       go (put k v h) z σ τ b f e (put-before p) =
-          cut-before (put k v h) z τ (subst (λ (l : List Store). Part l τ)
-          (ap (λ (l : List Store). take (length l - 1) l) (e ∙ ap (λ (l : List Store). U (put k v h) z .before ++ U (put k v h) z .switch ∷ l) f) ∙ but-last (U (put k v h) z .before) (U (put k v h) z .switch)) p)
+          let all : σ ≡ U (put k v h) z .before ++ U (put k v h) z .switch ∷ [] =
+          e ∙ ap (λ (l : List Store). U (put k v h) z .before ++ U (put k v h) z .switch ∷ l) f in
+          before (put k v h) z τ
+          (subst (λ (l : List Store). Part l τ)
+          (ap (λ (l : List Store). take (length l - 1) l) all ∙ but-last (U (put k v h) z .before) (U (put k v h) z .switch)) p)
       go (put k v h) z σ τ b f e put-whole =
-          subst (λ (l : List Store). State n (made l pool) none (effect (put k v h) T)) (sym e)
-          (cut-since (put k v h) z (U (put k v h) z .rest) (part-all (U (put k v h) z .rest)))
-      go (delete k h) z σ τ b f e delete-before = cut-before (delete k h) z [] (part-none (U (delete k h) z .before))
+          subst (λ (l : List Store). P (put k v h) l true) (sym e) (since (put k v h) z (U (put k v h) z .rest) (part-all (U (put k v h) z .rest)))
+      go (delete k h) z σ τ b f e delete-before = before (delete k h) z [] (part-none (U (delete k h) z .before))
       go (delete k h) z σ τ b f e (delete-since {s = s} {σ = ρ} {τ = τ′} p) =
-          let q : s ∷ ρ ≡ U (delete k h) z .switch ∷ U (delete k h) z .rest = e ∙ ap (λ (l : List Store). l ++ U (delete k h) z .switch ∷ U (delete k h) z .rest) f in
+          let all : s ∷ ρ ≡ U (delete k h) z .switch ∷ U (delete k h) z .rest =
+          e ∙ ap (λ (l : List Store). l ++ U (delete k h) z .switch ∷ U (delete k h) z .rest) f in
           let a : s ≡ U (delete k h) z .switch = cc in
           let r : ρ ≡ U (delete k h) z .rest = cc in
-          subst (λ (l : List Store). State n (made l pool) none (effect (delete k h) T))
+          subst (λ (l : List Store). P (delete k h) l true)
           (ap (λ (l : List Store). l ++ U (delete k h) z .switch ∷ τ′) f ∙ ap (λ (x : Store). x ∷ τ′) (sym a))
-          (cut-since (delete k h) z τ′ (subst (λ (l : List Store). Part l τ′) r p))
+          (since (delete k h) z τ′ (subst (λ (l : List Store). Part l τ′) r p))
+
+  pub cut-state : (o : Op) (z : planned o pool bytes .number ≡ 0) {τ : List Store} {b : Bool} → Loosely o (planned o pool bytes .stores) τ b
+      → State n (made τ pool) none (pick b (effect o T) T)
+  cut-state o z c = cut-case (λ o τ b. State n (made τ pool) none (pick b (effect o T) T)) cut-before cut-since o z c
 
 -- ---- the first stores of a plan are some of them
 pub in-order-loosely : {o : Op} {σ τ : List Store} {b : Bool} → 0 < length σ → InOrder o σ τ b → Loosely o σ τ b

@@ -17,6 +17,7 @@ use Rattle.plan.specs.Plans.{made, Decided}
 use Rattle.planning.specs.Puts.{putPlan}
 use Rattle.planning.specs.Deletes.{deletePlan}
 use Rattle.writing.specs.Calls.{Left, putOf, deleteOf, formatOf}
+use Rattle.survey.specs.Soundness.{Stale}
 use Rattle.opening.specs.Openings.{openOf, openSteps}
 use Rattle.reading.specs.Rows.{Word}
 use Rattle.demands.specs.Tables.{Table, blank, given, without, Reads}
@@ -92,3 +93,8 @@ pub record Promised (n : ℕ) (pool : List ℕ) (map : Option (List ℕ)) (T : T
 
 abbrev pub Demand3 : Cut → Type 0
 Demand3 C = (n : ℕ) (pool : List ℕ) (map : Option (List ℕ)) (T : Table) → Reach C n pool map T → Promised n pool map T
+
+-- And beside the demand: in every state that is reached at most one header is stale.
+abbrev pub OneStale : Cut → Type 0
+OneStale C =
+    (n : ℕ) (pool : List ℕ) (map : Option (List ℕ)) (T : Table) → Reach C n pool map T → (j j′ : ℕ) → Stale pool n j → Stale pool n j′ → j ≡ j′

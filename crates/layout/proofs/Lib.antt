@@ -2,6 +2,7 @@ pub mod Base
 pub mod Held
 pub mod Changes
 pub mod Headers
+pub mod Stales
 pub mod Puts
 pub mod Splits
 pub mod Deletes

@@ -7,7 +7,7 @@ use mathlib.Core.List.{List, [], _∷_}
 use Prim.Native.Nat.{ℕ, zero, suc, _+_, _-_, _*_, _≤_, _<_}
 use native.Mathlib.Omega.{arith}
 use borrow.Author.Tests.{ltb-false, ne-eqb}
-use lib.Dec.{ltb}
+use lib.Dec.{ltb, eqb}
 use lib.ListN.{length, getD, set, replicate, length-replicate}
 use lib.Seq.{getD-set-same, getD-set-other}
 use Rattle.digits.specs.Loops.{scan}
@@ -16,16 +16,21 @@ use Rattle.digits.proofs.Digits.{digit-lt}
 use Rattle.digits.proofs.Headers.{depth-of-header}
 use Rattle.pool.specs.Sizes.{bytesOf}
 use Rattle.pool.specs.Places.{headerAt, nodeWord, nodeRef}
-use Rattle.tree.specs.Tree.{Tree, empty, leaf, node, upd, mult, On, here, down, sub, dep, Stands, pre, Good, GoodAt}
+use Rattle.tree.specs.Tree.{Tree, empty, leaf, node, upd, sum, one, mult, On, here, down, sub, dep, Stands, pre, Good, GoodAt}
 use Rattle.tree.specs.Near.{low}
 use Rattle.tree.specs.Shape
-use Rattle.tree.proofs.Basics.{Same?, same, other, same?, less?, one-is, one-off, sum-some}
+use Rattle.tree.specs.Straight.{StraightBut}
+use Rattle.tree.proofs.Basics.{Same?, same, other, same?, less?, one-is, one-at, one-off, sum-has, sum-some}
 use Rattle.tree.proofs.Near.{low-agrees}
+use Rattle.tree.proofs.Places.{plug-sub, sub-mult}
+use Rattle.tree.proofs.Straight.{straight-sub, straight-plug}
 use Rattle.layout.specs.Layout.{base, Held, refAt}
+use Rattle.layout.specs.Switches.{depths}
 use Rattle.layout.proofs.Base.{Decoded, decoded}
 use Rattle.layout.proofs.Held.{holds-at, good-at, leaf-slot}
 use Rattle.layout.proofs.Changes.{kept}
 use Rattle.layout.proofs.Headers.{reheaded}
+use Rattle.layout.proofs.Stales.{depths-same, header-depth, header-others, node-straight}
 use Rattle.walk.specs.Walks.{headOf, lowestOf}
 use Rattle.walk.specs.Ends.{Accepted}
 use Rattle.walk.specs.declared.Head.the-variants.{Branch}
@@ -176,6 +181,49 @@ module _ (n : ℕ) (pos : 1 ≤ n) (cap : n ≤ 1024) (t : Tree ℕ) where
       -- the header is then straight
       pub mended-depth : depthOf header ≡ w
       mended-depth = depth-of-header 16 w (S .b - w) (low u) (omega (arith, bounds))
+
+      -- and the other nodes are stale or not as before
+      pub mend-straight : (but : ℕ → Type 0) → StraightBut (depths n (mem pool)) but 0 t
+          → StraightBut (depths n (mem (set pool (nodeWord n j) header))) but 0 t
+      unfolding mult
+      mend-straight but g =
+          subst (StraightBut (depths n m′) but 0) (plug-sub (S .π) t (S .stands .on))
+          (straight-plug (depths n (mem pool)) (depths n m′) but (S .π) 0 t (sub (S .π) t) (S .stands .on) g (λ x h. others x (outside x h))
+          (rw (S .stands .is)
+          (node-straight n (mem pool) m′ but w w (n + j) (S .b) (S .s) (S .kids) said others alone
+          (subst (StraightBut (depths n (mem pool)) but w) (S .stands .is) (straight-sub (depths n (mem pool)) but (S .π) 0 t (S .stands .on) g)))))
+        where
+          m′ : Shape.Mem
+          m′ = mem (set pool (nodeWord n j) header)
+
+          stored-is : (i : ℕ) → m′ i ≡ upd (mem pool) (nodeWord n (n + j - n)) header i
+          stored-is i = mem-set i ∙ ap (λ k. upd (mem pool) (nodeWord n k) header i) (sym back)
+
+          same-depths : (x : ℕ) → depths n m′ x ≡ depths n (upd (mem pool) (nodeWord n (n + j - n)) header) x
+          same-depths x = depths-same n (upd (mem pool) (nodeWord n (n + j - n)) header) m′ x (λ l. stored-is (nodeWord n (x - n)))
+
+          said : depths n m′ (n + j) ≡ w
+          said = same-depths (n + j) ∙ header-depth n (mem pool) (n + j) header (omega arith) ∙ mended-depth
+
+          others : (x : ℕ) → x ≢ n + j → depths n m′ x ≡ depths n (mem pool) x
+          others x e = same-depths x ∙ header-others n (mem pool) (n + j) header (omega arith) x e
+
+          counted : (x : ℕ) → mult x (sub (S .π) t) ≡ one (eqb x (n + j)) + sum 16 (λ c. mult x (S .kids c))
+          counted x = ap (mult x) (S .stands .is)
+
+          alone : (c : ℕ) → c < 16 → mult (n + j) (S .kids c) ≡ 0
+          alone c l =
+              omega (
+                arith,
+                counted (n + j),
+                one-at (n + j),
+                H .once (n + j),
+                sub-mult (S .π) t (n + j) (S .stands .on),
+                sum-has 16 (λ c. mult (n + j) (S .kids c)) c l,
+              )
+
+          outside : (x : ℕ) → mult x (sub (S .π) t) < mult x t → x ≢ n + j
+          outside x h e = let q : mult (n + j) (sub (S .π) t) < mult (n + j) t = rw e at h in omega (arith, counted (n + j), one-at (n + j), H .once (n + j))
 
       -- a header that is not stale is straight
       pub fresh-depth : stale pool n M j ≡ false → depthOf (headerAt pool n j) ≡ w

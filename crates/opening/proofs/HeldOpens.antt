@@ -21,6 +21,7 @@ use Rattle.tree.specs.Tree.{Tree, one, mult, leaves, dep}
 use Rattle.tree.specs.Stores.{Store}
 use Rattle.tree.proofs.Basics.{Same?, same, other, same?, less?, last?, true-not-false, sum-same, tally-sum}
 use Rattle.layout.specs.Layout.{Held}
+use Rattle.layout.specs.Switches.{OneStale}
 use Rattle.layout.proofs.Room.{leaves-counted}
 use Rattle.walk.proofs.Loops.{scan-true}
 use Rattle.plan.specs.Plans.{made, decided}
@@ -31,7 +32,7 @@ use Rattle.survey.proofs.TreeMarks.{marks-off, marks-on, marks-length}
 use Rattle.survey.proofs.HeldSurvey.{held-sound, zeros}
 use Rattle.opening.specs.Openings.{depthMarked, stale, mendOf, firstStale, mendFirst, openPlan, openSteps}
 use Rattle.opening.specs.Openings.{Mended, mendNode, mended, reached, keysOf, opened, openOf}
-use Rattle.opening.proofs.HeldMends.{M, NodeAt, scan-first, scan-nowhere, marked-stands, header, mend-is, mend-held, mended-depth, fresh-depth, depth-is}
+use Rattle.opening.proofs.HeldMends.{M, NodeAt, scan-first, scan-nowhere, marked-stands, header, mend-is, mend-held, mended-depth, mend-straight, fresh-depth, depth-is}
 
 -- steps of opening are made one after the other
 steps-snoc : (k : ℕ) (pool : List ℕ) → openSteps (suc k) pool ≡ made (openPlan (openSteps k pool) .stores) (openSteps k pool)
@@ -95,6 +96,19 @@ module _ (n : ℕ) (pos : 1 ≤ n) (cap : n ≤ 1024) (t : Tree ℕ) where
             (mended-pool (firstStale pool n marks) (omega arith)
             (stale-stands (firstStale pool n marks) (scan-true (stale pool n marks) (n - 1) 0 (omega arith))))
         go (inr l) = rw (le-ltb (firstStale pool n marks) (n - 1) l) P
+
+    -- and leaves no further node stale
+    pub step-stale : OneStale n (mem pool) t → OneStale n (mem (made (openPlan pool .stores) pool)) t
+    unfolding made
+    step-stale O = rw plan-is (go (less? (firstStale pool n marks) (n - 1)))
+      where
+        go : (firstStale pool n marks < n - 1) ⊎ (n - 1 ≤ firstStale pool n marks) → OneStale n (mem (made (mendFirst pool n marks) pool)) t
+        go (inl l) =
+            let j : ℕ = firstStale pool n marks in
+            let S : NodeAt n pos cap t j = stale-stands j (scan-true (stale pool n marks) (n - 1) 0 (omega arith)) in
+            rw (lt-ltb j (n - 1) l, made-is j (omega arith) S)
+            (record { slot = O .slot; straight = mend-straight n pos cap t pool (P .size) (P .held) j (omega arith) S (λ x. x ≡ O .slot) (O .straight) })
+        go (inr l) = rw (le-ltb (firstStale pool n marks) (n - 1) l) O
 
     -- a node whose header says its walk depth is not stale
     straight-fresh : (j : ℕ) → j + 1 < n → ((S : NodeAt n pos cap t j) → depthOf (headerAt pool n j) ≡ dep (S .π) 0 t) → stale pool n marks j ≡ false
@@ -251,3 +265,9 @@ module _ (n : ℕ) (pos : 1 ≤ n) (cap : n ≤ 1024) (t : Tree ℕ) where
   unfolding openSteps
   steps-pool zero pool P = P
   steps-pool (suc k) pool P = steps-pool k (made (openPlan pool .stores) pool) (step-pool pool P)
+
+  -- nor do they leave a further node stale
+  pub steps-stale : (k : ℕ) (pool : List ℕ) → Pool pool → OneStale n (mem pool) t → OneStale n (mem (openSteps k pool)) t
+  unfolding openSteps
+  steps-stale zero pool P O = O
+  steps-stale (suc k) pool P O = steps-stale k (made (openPlan pool .stores) pool) (step-pool pool P) (step-stale pool P O)

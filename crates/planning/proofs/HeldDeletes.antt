@@ -137,7 +137,7 @@ module _ (pool : List ℕ) (n : ℕ) (t : Tree ℕ) (H : Held 16 n (mem pool) t)
         merged (leaf z k′ v′) e =
             rw (held-leaf pool n (b + 1) r z k′ v′ (other-holds (leaf z k′ v′) e) .ref, spot-word n root ρ t (q .on), slot-back)
             (dropped (bypassing word r) (y ∷ []) (FreesBoth x y) refl refl (ref-above n 1 ρ t (omega arith), tt)
-            (drops-bypass 16 n (mem pool) t H ρ y b s kids q c lc (O .o) (O .o<) apart count full (O .there)))
+            (drops-bypass 16 n (mem pool) t H ρ y b s kids q c lc (O .o) (O .o<) apart count full (O .there) z k′ v′ e))
         merged (node z b′ s′ kids′) e =
             let u : Tree ℕ = node z b′ s′ kids′ in
             let a = held-node pool n (b + 1) r z b′ s′ kids′ (other-holds u e) in

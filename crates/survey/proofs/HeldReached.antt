@@ -140,6 +140,14 @@ module _ (pool : List ℕ) (n : ℕ) where
       let N : NodeHeld w j t = subst (Means w t) e (means w (wordAt pool i) t h) in
       rw (N .is) (c, l, below-key B (branch pool n j + 1) (N .kids c) (N .below c l))
 
+  -- the children of a node that is reached
+  pub kid-reached : (i w y b s : ℕ) (kids : ℕ → Tree ℕ) → Reached pool n i w → Holds (base 16 n) (mem pool) w (wordAt pool i) (node y b s kids)
+      → (c : ℕ) → c < 16 → Reached pool n (childWord n (y - n) c) (b + 1)
+  kid-reached i w y b s kids R h c l =
+      let is = node-held w (wordAt pool i) y b s kids h .is in
+      let at-b : branch pool n (y - n) ≡ b = cc in
+      subst (λ (w : ℕ). Reached pool n (childWord n (y - n) c) (w + 1)) at-b (child (y - n) c R (held-node pool n w (wordAt pool i) y b s kids h .refers) l)
+
   -- a slot that is counted below what is reached is in use
   counted-in-use : (x i w : ℕ) (t : Tree ℕ) → Reached pool n i w → Holds (base 16 n) (mem pool) w (wordAt pool i) t → 0 < mult x t → InUse pool n x
   unfolding mult
@@ -147,12 +155,6 @@ module _ (pool : List ℕ) (n : ℕ) where
   counted-in-use x i w (leaf y k v) R h p = record { i = i; w = w; reached = R; slot = slot-is w (wordAt pool i) (leaf y k v) h ∙ ap some (sym (one-is x y p)) }
   counted-in-use x i w (node y b s kids) R h p = go (same? x y) (λ c. counted-in-use x (childWord n (y - n) c) (b + 1) (kids c))
     where
-      kid-reached : (c : ℕ) → c < 16 → Reached pool n (childWord n (y - n) c) (b + 1)
-      kid-reached c l =
-          let is = node-held w (wordAt pool i) y b s kids h .is in
-          let at-b : branch pool n (y - n) ≡ b = cc in
-          subst (λ (w : ℕ). Reached pool n (childWord n (y - n) c) (w + 1)) at-b (child (y - n) c R (held-node pool n w (wordAt pool i) y b s kids h .refers) l)
-
       go : Same? x y
           → ((c : ℕ) → Reached pool n (childWord n (y - n) c) (b + 1) → Holds (base 16 n) (mem pool) (b + 1) (childAt pool n (y - n) c) (kids c) → 0 < mult x (kids c)
           → InUse pool n x)
@@ -160,7 +162,7 @@ module _ (pool : List ℕ) (n : ℕ) where
       go (same e z) ih = record { i = i; w = w; reached = R; slot = slot-is w (wordAt pool i) (node y b s kids) h ∙ ap some (sym e) }
       go (other e z) ih =
           let (c, l, o) = sum-some 16 (λ c. mult x (kids c)) (omega (arith, one-off x y e)) in
-          ih c (kid-reached c l) (held-child pool n w (wordAt pool i) y b s kids c h l) o
+          ih c (kid-reached i w y b s kids R h c l) (held-child pool n w (wordAt pool i) y b s kids c h l) o
 
   -- ---- a pool that holds a tree
   module _ (t : Tree ℕ) (H : Held 16 n (mem pool) t) where

@@ -7,3 +7,4 @@ pub mod TreeMarks
 pub mod HeldSurvey
 pub mod HeldReached
 pub mod SoundHeld
+pub mod Stales

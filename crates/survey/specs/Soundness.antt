@@ -67,7 +67,15 @@ pub record Sound (pool : List ℕ) : Type 0 where
   -- "no slot is reached twice"
   pub once : (i i′ w w′ x : ℕ) → Reached pool n i w → Reached pool n i′ w′ → slotOf n (at pool n i) ≡ some x → slotOf n (at pool n i′) ≡ some x → i ≡ i′
 
--- "A node with h > w is stale .. A sound pool without stale nodes is straight."
+-- "A node with h > w is stale": node j
+pub record Stale (pool : List ℕ) (n j : ℕ) : Type 0 where
+  pub i : ℕ
+  pub w : ℕ
+  pub reached : Reached pool n i w
+  pub node : at pool n i ≡ Node j
+  pub above : w < depth pool n j
+
+-- "A sound pool without stale nodes is straight."
 pub record Straight (pool : List ℕ) : Type 0 where
   pub sound : Sound pool
   pub none-stale : (i w j : ℕ) → Reached pool (sound .n) i w → at pool (sound .n) i ≡ Node j → depth pool (sound .n) j ≡ w

@@ -1,6 +1,7 @@
 pub mod Basics
 pub mod Places
 pub mod Frame
+pub mod Straight
 pub mod Near
 pub mod Once
 pub mod Walk

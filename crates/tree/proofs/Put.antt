@@ -10,6 +10,7 @@ use borrow.Author.Tests.{eq-eqb, ne-eqb}
 use Rattle.tree.specs.Tree.{Tree, empty, leaf, node, upd, mult, Filled, On, sub, plug, Agree, Leads, find, Good}
 use Rattle.tree.specs.Changes.{occurs, Adds}
 use Rattle.tree.specs.Shape.{none-there, leaf-there, Mem, Shape, Head, Holds}
+use Rattle.tree.specs.Straight.{StraightBut}
 use Rattle.tree.proofs.Basics.{upd-case, upd-at, upd-off, sum-upd, sum-zero}
 use Rattle.tree.proofs.Places.{plug-mult, agree-down, find-keeps, find-there, not-found}
 use Rattle.tree.proofs.Near.{Past}
@@ -75,6 +76,11 @@ module _ {A : Type 0} (dig : ℕ → ℕ → ℕ) (dl : (k i : ℕ) → dig k i 
   unfolding Holds splitTree
   split-holds S m w r hd new old off =
       (hd, λ d h. kids-case (λ d u. Holds S m (f + 1) (S .kid m y d) u) d new old (λ p q. off d h p q))
+
+  -- straight where the new node's header says its walk depth and the old target is
+  pub split-straight : (h : ℕ → ℕ) (but : ℕ → Type 0) (w : ℕ) → h y ≡ w → StraightBut h but (f + 1) t → StraightBut h but w (splitTree dig y f z k v c t)
+  unfolding StraightBut splitTree
+  split-straight h but w e old = (λ n. e, λ d l. kids-case (λ d u. StraightBut h but (f + 1) u) d tt old (λ p q. tt))
 
   pub split-filled : Filled (splitTree dig y f z k v c t)
   unfolding splitTree

@@ -1,6 +1,7 @@
 pub mod Tree
 pub mod Changes
 pub mod Shape
+pub mod Straight
 pub mod Stores
 pub mod Listing
 pub mod Near
