@@ -21,7 +21,7 @@ use Rattle.tree.proofs.Stores.{Words, words-part, part-all}
 use Rattle.tree.proofs.Basics.{Same?, same, other, same?}
 use Rattle.tree.proofs.Straight.{straight-same}
 use Rattle.layout.specs.Layout.{Held}
-use Rattle.layout.specs.Switches.{depths, NoneStale, OneStale as OneStaleIn}
+use Rattle.layout.specs.Switches.{depths, NoneStale, OneStale}
 use Rattle.layout.proofs.Stales.{depths-same}
 use Rattle.plan.specs.Plans.{made, Decided}
 use Rattle.plan.proofs.Laws.{made-run}
@@ -33,7 +33,7 @@ use Rattle.writing.specs.Calls.{formatOf, formatIn}
 use Rattle.opening.specs.Openings.{openOf, openSteps}
 use Rattle.opening.proofs.HeldOpens.{steps-pool, steps-stale}
 use Rattle.demands.specs.Tables.{Table}
-use Rattle.demands.specs.Demand3.{Op, Cut, planned, whole, InOrder, Loosely, Reach, fresh, done, refused, cut, lost, reopening, opened, OneStale}
+use Rattle.demands.specs.Demand3.{Op, Cut, planned, whole, InOrder, Loosely, Reach, fresh, done, refused, cut, lost, reopening, opened, AtMostOneStale}
 use Rattle.demands.proofs.States.{State, fits, stored}
 use Rattle.demands.proofs.Operations.{part-first, part-both, Turns, turns, whole-number, whole-done, whole-refused, cut-case, in-order-loosely}
 use Rattle.demands.proofs.Opening.{opens}
@@ -81,9 +81,7 @@ format-root n pool map z = go (sizeOf (length pool) n) (size-fits pool n) z
 
 -- ---- a pool that an opening has left
 straight-none : (n : ℕ) (pool : List ℕ) → capacityOf pool ≡ Holds n → Straight pool → (j : ℕ) → Stale pool n j → ⊥
-straight-none n pool size X j S =
-    let S′ : Stale pool (X .sound .n) j = subst (λ (m : ℕ). Stale pool m j) (sym (sound-capacity pool n (X .sound) size)) S in
-    omega (arith, X .none-stale (S′ .i) (S′ .w) j (S′ .reached) (S′ .node), S′ .above)
+straight-none n pool size X j S = X .none-stale j (subst (λ (m : ℕ). Stale pool m j) (sym (sound-capacity pool n (X .sound) size)) S)
 
 -- ---- puts and deletes
 module _ {n : ℕ} {pool bytes : List ℕ} {T : Table} (S : State n pool (some bytes) T) (clean : (j : ℕ) → Stale pool n j → ⊥) where
@@ -114,11 +112,11 @@ module _ {n : ℕ} {pool bytes : List ℕ} {T : Table} (S : State n pool (some b
         (made-straight all (U .inside) (λ x. ⊥) (U .switches .after) (U .switches .stales straight .whole)))
 
     -- when some of it is, one at most
-    some-only : (τ : List Store) (t : Tree ℕ) → Part all τ → Held 16 n (run τ (mem pool)) t → OneStaleIn n (run τ (mem pool)) t → Only n (made τ pool)
+    some-only : (τ : List Store) (t : Tree ℕ) → Part all τ → Held 16 n (run τ (mem pool)) t → OneStale n (run τ (mem pool)) t → Only n (made τ pool)
     some-only τ t p H O =
         let inside = words-part (λ w. w < length pool) all τ p (U .inside) in
         let above = words-part (λ w. 0 < w) all τ p (U .above) in
-        let O′ : OneStaleIn n (mem (made τ pool)) t = record { slot = O .slot; straight = made-straight τ inside (λ x. x ≡ O .slot) t (O .straight) } in
+        let O′ : OneStale n (mem (made τ pool)) t = record { slot = O .slot; straight = made-straight τ inside (λ x. x ≡ O .slot) t (O .straight) } in
         (O .slot - n, λ j X. omega (arith, one-stale (made τ pool) n t (stored S τ inside above t H .held) O′ j X))
 
   cut-only : (o : Op) (z : planned o pool bytes .number ≡ 0) {τ : List Store} {b : Bool} → Loosely o (planned o pool bytes .stores) τ b → Only n (made τ pool)
@@ -150,7 +148,7 @@ module _ (C : Cut) (within : (o : Op) (σ τ : List Store) (b : Bool) → 0 < le
   reach-stales {n = n} (reopening {pool = pool} k r) =
       let S = reach-state C within r in
       let X = reach-stales r in
-      let O : OneStaleIn n (mem pool) (S .t) = record {
+      let O : OneStale n (mem pool) (S .t) = record {
         slot = n + X .y;
         straight = straight-tree pool n (λ x. x ≡ n + X .y) (λ j e. ap (λ (i : ℕ). n + i) (X .only j e)) (S .t) (S .holds .held);
       } in
@@ -162,11 +160,11 @@ module _ (C : Cut) (within : (o : Op) (σ τ : List Store) (b : Bool) → 0 < le
       let done-there : openOf pool bytes .answer .number ≡ 0 = demand3-of C within n pool none _ r .opens bytes e in
       all-fresh n _ _ (straight-none n (openOf pool bytes .pool) (fits (open-state S bytes e)) (opens .restores pool bytes done-there .after))
 
-  one-stale-of : OneStale C
+  one-stale-of : AtMostOneStale C
   one-stale-of n pool map T r j j′ e e′ = let X = reach-stales r in X .only j e ∙ sym (X .only j′ e′)
 
-pub one-stale-in-order : OneStale InOrder
+pub one-stale-in-order : AtMostOneStale InOrder
 one-stale-in-order = one-stale-of InOrder (λ o σ τ b. in-order-loosely)
 
-pub one-stale-loosely : OneStale Loosely
+pub one-stale-loosely : AtMostOneStale Loosely
 one-stale-loosely = one-stale-of Loosely (λ o σ τ b many c. c)

@@ -4,7 +4,7 @@ use mathlib.Core.Path.{_≡_}
 use mathlib.Core.Bool.{true}
 use Rattle.demands.specs.Demand1.{Demand1}
 use Rattle.demands.specs.Demand2.{Demand2Holds}
-use Rattle.demands.specs.Demand3.{InOrder, Loosely, Demand3, OneStale}
+use Rattle.demands.specs.Demand3.{InOrder, Loosely, Demand3, AtMostOneStale}
 use Rattle.demands.specs.Opening.{Opens}
 use Rattle.demands.specs.Unique.{Unique}
 use Rattle.demands.specs.Cases.{every, cases}
@@ -13,10 +13,10 @@ pub record Claims : Type 0 where
   pub demand1 : Demand1
   pub demand2 : Demand2Holds
   pub demand3 : Demand3 InOrder
-  pub one-stale : OneStale InOrder
+  pub one-stale : AtMostOneStale InOrder
   -- more than the demand asks: only the store that counts keeps its place
   pub demand3-more : Demand3 Loosely
-  pub one-stale-more : OneStale Loosely
+  pub one-stale-more : AtMostOneStale Loosely
   pub opening : Opens
   pub one-outcome : Unique
   pub examples : every cases ≡ true

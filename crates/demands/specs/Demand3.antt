@@ -95,6 +95,6 @@ abbrev pub Demand3 : Cut → Type 0
 Demand3 C = (n : ℕ) (pool : List ℕ) (map : Option (List ℕ)) (T : Table) → Reach C n pool map T → Promised n pool map T
 
 -- And beside the demand: in every state that is reached at most one header is stale.
-abbrev pub OneStale : Cut → Type 0
-OneStale C =
+abbrev pub AtMostOneStale : Cut → Type 0
+AtMostOneStale C =
     (n : ℕ) (pool : List ℕ) (map : Option (List ℕ)) (T : Table) → Reach C n pool map T → (j j′ : ℕ) → Stale pool n j → Stale pool n j′ → j ≡ j′

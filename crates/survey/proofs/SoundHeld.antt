@@ -88,11 +88,12 @@ module _ (pool : List ℕ) (n : ℕ) where
     unfolding held-is-sound
     straight-if d = record {
       sound = held-is-sound;
-      none-stale = λ i w j R e.
-          let P = reached-place pool n t H R in
-          let N = place-means pool n t H P e in
+      none-stale = λ j S.
+          let P = reached-place pool n t H (S .reached) in
+          let N = place-means pool n t H P (S .node) in
           let back : j ≡ n + j - n = omega arith in
-          ap (λ (j : ℕ). depthOf (headerAt pool n j)) back ∙ d (P .π) (n + j) (branch pool n j) (N .s) (N .kids) (record { on = P .on; is = N .is }) ∙ P .met;
+          let e = d (P .π) (n + j) (branch pool n j) (N .s) (N .kids) (record { on = P .on; is = N .is }) in
+          omega (arith, ap (λ (j : ℕ). depthOf (headerAt pool n j)) back, P .met, S .above);
     }
 
   -- a sound node's header is shown with the stored digits of a key below

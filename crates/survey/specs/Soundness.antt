@@ -78,7 +78,7 @@ pub record Stale (pool : List ℕ) (n j : ℕ) : Type 0 where
 -- "A sound pool without stale nodes is straight."
 pub record Straight (pool : List ℕ) : Type 0 where
   pub sound : Sound pool
-  pub none-stale : (i w j : ℕ) → Reached pool (sound .n) i w → at pool (sound .n) i ≡ Node j → depth pool (sound .n) j ≡ w
+  pub none-stale : (j : ℕ) → Stale pool (sound .n) j → ⊥
 
 -- a slot is reached
 pub record InUse (pool : List ℕ) (n x : ℕ) : Type 0 where
