@@ -9,6 +9,8 @@ part() {
 
 part "toolchain"
 tools/pinned.sh
+part "gcc, cargo and python3 for x86-64"
+tools/for-x86-64.sh true
 part "layout of the sources"
 if ! rt fmt --check; then
     echo "Some file is not in the layout of 'rt fmt': run it, and commit." >&2
@@ -29,10 +31,10 @@ if [ "$status" != 0 ] || ! tail -n 1 build/ci.log | grep -qE '^[0-9]+ passed, 0 
     exit 1
 fi
 part "tests from outside, through the C interface"
-if ! rt staticlib wort || ! (cd host && cargo test --release --locked --offline); then
+if ! rt staticlib wort || ! (cd host && ../tools/for-x86-64.sh cargo test --release --locked --offline); then
     echo "The library and the model differ, or the tests do not build: see above." >&2
     exit 1
 fi
 part "pictures and the walk-through, as the library does it"
-tools/pictures.py --check
+tools/for-x86-64.sh tools/pictures.py --check
 tail -n 1 build/ci.log
