@@ -1,10 +1,17 @@
 #!/usr/bin/env bash
-# The test command. It ends with the prover's own closing line, and fails if any part fails.
+# The test command. It ends with the prover's own closing line, and fails if any part fails. What it spent: tools/time.sh.
 set -euo pipefail
 cd "$(dirname "$0")/.."
+mkdir -p build
+: >build/parts
+name=
 
+# Ends the part before, with its seconds, and begins another.
 part() {
-    echo "== $*"
+    [ -z "$name" ] || printf '%s\t%s\n' $((SECONDS - began)) "$name" >>build/parts
+    began=$SECONDS
+    name=$*
+    [ -z "$name" ] || echo "== $name"
 }
 
 part "toolchain"
@@ -23,7 +30,6 @@ tools/docs-check.py
 part "claims"
 tools/claims.sh
 part "proofs, must-fail edits and programs"
-mkdir -p build
 status=0
 rt ci 2>&1 | tee build/ci.log || status=$?
 if [ "$status" != 0 ] || ! tail -n 1 build/ci.log | grep -qE '^[0-9]+ passed, 0 failed$'; then
@@ -37,4 +43,5 @@ if ! rt staticlib wort || ! (cd host && ../tools/for-x86-64.sh cargo test --rele
 fi
 part "pictures and the walk-through, as the library does it"
 tools/for-x86-64.sh tools/pictures.py --check
+part ""
 tail -n 1 build/ci.log
