@@ -8,8 +8,8 @@ use Rattle.digits.specs.Loops.{upto, tally}
 use Rattle.pool.specs.Sizes.{sizeOf, capacityOf}
 use Rattle.pool.specs.Refs.{refOf}
 use Rattle.walk.specs.Walks.{headOf, walkFrom}
-use Rattle.reading.specs.Lookups.{answer, lookupOf}
-use Rattle.reading.specs.Listings.{leafOf, visitFrom, shown, listed, judged, listOf}
+use Rattle.finding.specs.Lookups.{answer, lookupOf}
+use Rattle.listing.specs.Listings.{leafOf, visitFrom, shown, listed, judged, listOf}
 
 -- N = 3, with leaves for the keys 0x200, 0x20f and 0x222. Node 0 branches at digit 14, to node 1 and to the reference c; node 1 branches at digit 15, to the
 -- first two leaves. The root is r.

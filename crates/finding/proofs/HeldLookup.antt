@@ -25,8 +25,7 @@ use Rattle.held.specs.Ways.{dig, mem, spotAt, endAt}
 use Rattle.held.proofs.Heads.{held-leaf}
 use Rattle.held.proofs.Walks.{walk-held}
 use Rattle.held.proofs.Spots.{spot-nodes, way-on, way-finds, way-ends, NoNode}
-use Rattle.reading.specs.Lookups.{Answer, answer, foundAt, lookupOf}
-use Rattle.reading.specs.Rows.{Finds}
+use Rattle.finding.specs.Lookups.{Answer, answer, foundAt, lookupOf, Finds}
 
 -- ---- what it answers
 -- the value that a key has, or that it has none, in a lookup's numbers, with m nodes passed

@@ -1,13 +1,9 @@
 -- The lookup's loop: where it stands, some walk along the key stands, and what it finds is what the walk finds.
 -- Assumes nothing.
 use mathlib.Core.Path.{_≡_, refl, sym, ap, _∙_}
-use mathlib.Core.Bool.{Bool, true, false}
 use mathlib.Core.List.{List}
-use Prim.Native.Nat.{ℕ, _+_, _-_, _≤_}
+use Prim.Native.Nat.{ℕ, _+_, _≤_}
 use native.Mathlib.Omega.{arith}
-use borrow.Author.Tests.{le-leb}
-use lib.Dec.{eqb, ltb}
-use Rattle.digits.specs.Choice.{pick}
 use Rattle.digits.specs.Digits.{digitOf}
 use Rattle.pool.specs.Sizes.{capacityOf}
 use Rattle.pool.specs.Places.{wordAt, childAt}
@@ -21,17 +17,7 @@ use Rattle.walk.specs.Ends.{Accepted}
 use Rattle.walk.specs.declared.Spot.{Spot}
 use Rattle.walk.proofs.Heads.{NoNode, Refused}
 use Rattle.walk.proofs.Walks.{walk-ends, walk-damaged, walk-on}
-use Rattle.reading.specs.Lookups.{answer, foundEnd, foundAt, lookupOf}
-
--- a reference up to 1024 is to no node
-pub low-no-node : (n r : ℕ) → r ≤ 1024 → NoNode (refOf n r)
-unfolding refOf
-low-no-node n r h = rw (le-leb r 1024 h) (go (eqb r 0) (ltb (r - 1) n))
-  where
-    go : (t u : Bool) → NoNode (pick t Empty (pick u (Leaf (r - 1)) Bad))
-    go true u = tt
-    go false true = tt
-    go false false = tt
+use Rattle.finding.specs.Lookups.{answer, foundEnd, foundAt, lookupOf}
 
 -- the walk along the key comes past so many nodes to the word x, at walk depth w
 pub record Comes (pool : List ℕ) (n key x w nodes : ℕ) : Type 0 where

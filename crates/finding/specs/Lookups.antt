@@ -1,5 +1,7 @@
 -- Lookup: what a key answers, in any run of words.
 -- Assumes nothing.
+use mathlib.Core.Path.{_≡_}
+use mathlib.Core.Option.{Option, none, some}
 use mathlib.Core.List.{List}
 use Prim.Native.Nat.{ℕ}
 use lib.Dec.{eqb}
@@ -13,8 +15,8 @@ use Rattle.pool.specs.declared.Ref.the-variants.{Empty, Leaf, Node, Bad}
 use Rattle.walk.specs.Walks.{walkOf}
 use Rattle.walk.specs.declared.End.{End}
 use Rattle.walk.specs.declared.End.the-variants.{AtLeaf, AtEmpty, Stopped, Damaged}
-use Rattle.reading.specs.declared.finding.Found.{Found}
-use Rattle.reading.specs.declared.finding.Found.the-variants.{Hit, Absent, Met, WrongSize}
+use Rattle.finding.specs.declared.Found.{Found}
+use Rattle.finding.specs.declared.Found.the-variants.{Hit, Absent, Met, WrongSize}
 
 -- a lookup's answer in document 01's numbers
 pub record Answer : Type 0 where
@@ -53,3 +55,8 @@ foundIn pool key Wrong = answer 1 0 0
 
 unfoldable pub lookupOf : List ℕ → ℕ → Answer
 lookupOf pool key = foundIn pool key (capacityOf pool)
+
+-- a lookup answers as a plain table: 0 and the file number of a name that is held, 3 and 0 for one that is not
+abbrev pub Finds : Option ℕ → Answer → Type 0
+Finds (some v) a = (a .number ≡ 0) × (a .value ≡ v)
+Finds none a = (a .number ≡ 3) × (a .value ≡ 0)

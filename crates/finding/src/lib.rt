@@ -2,7 +2,7 @@
 ghost use mathlib.Core.Path.{_≡_};
 ghost use Rattle.pool.specs.Sizes.{Sized};
 ghost use Rattle.pool.specs.Refs.{Within};
-ghost use Rattle.reading.specs.Lookups.{told, foundEnd, lookupOf};
+ghost use Rattle.finding.specs.Lookups.{told, foundEnd, lookupOf};
 use pool::Ref;
 use pool::Size;
 use walk::Head;

@@ -11,7 +11,7 @@ use lib.Seq.{sets, length-sets, sets-eq, set-append-left, take-all, take-add, ta
 use Rattle.plan.specs.declared.Plan.{Plan}
 use Rattle.plan.specs.declared.Effect.{Effect}
 use Rattle.plan.specs.declared.Effect.the-variants.{Nothing, TakesLeaf, TakesBoth, FreesLeaf, FreesBoth}
-use Rattle.wort.specs.Plans.{effectWords, wordsOf}
+use Rattle.handing.specs.Plans.{effectWords, wordsOf}
 
 -- ---- a copy from the front
 -- the first i of these over the first i of those

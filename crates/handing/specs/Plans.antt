@@ -5,7 +5,8 @@ use Prim.Native.Nat.{ℕ}
 use lib.Dec.{eqb, ltb}
 use lib.ListN.{getD, take, drop}
 use Rattle.digits.specs.Choice.{pick}
-use Rattle.plan.specs.Plans.{After, after, finishOf}
+use Rattle.plan.specs.Plans.{After, after, Decided, plannedOf}
+use Rattle.finishing.specs.Finishes.{finishOf}
 use Rattle.plan.specs.declared.Plan.{Plan}
 use Rattle.plan.specs.declared.Effect.{Effect}
 use Rattle.plan.specs.declared.Effect.the-variants.{Nothing, TakesLeaf, TakesBoth, FreesLeaf, FreesBoth}
@@ -39,3 +40,14 @@ planIn l = record {
 -- finishing by such a run: an effect above 4 names no byte, and is refused with 5
 abbrev pub finishIn : List ℕ → List ℕ → After
 finishIn l bytes = pick (ltb 4 (getD l 1 0)) (after 5 bytes) (finishOf (planIn l .effect) bytes)
+
+-- a planning call: the number, and the plan's words
+pub record PlannedWords : Type 0 where
+  pub number : ℕ
+  pub plan : List ℕ
+
+abbrev pub planned : ℕ → List ℕ → PlannedWords
+planned k l = record { number = k; plan = l }
+
+abbrev pub plannedIn : Decided → PlannedWords
+plannedIn d = planned (d .number) (wordsOf (plannedOf d .plan))

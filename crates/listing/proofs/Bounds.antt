@@ -8,9 +8,9 @@ use borrow.Author.Tests.{leb-true, leb-false, le-leb, lt-leb}
 use lib.Dec.{leb, ltb}
 use lib.ListN.{length, getD, set, length-set}
 use lib.Seq.{getD-set-other}
-use Rattle.reading.specs.Listings.{Visit, state, visit, spoilt, leafOf, visitFrom}
-use Rattle.reading.proofs.Choice.{pick-case}
-use Rattle.reading.proofs.Visits.{visit-keeps}
+use Rattle.listing.specs.Listings.{Visit, state, visit, spoilt, leafOf, visitFrom}
+use Rattle.digits.proofs.Choice.{pick-case}
+use Rattle.listing.proofs.Visits.{visit-keeps}
 
 -- a state v of a listing in a pool of n leaves that began with the buffers ks and vs
 pub record Bounded (n : ℕ) (ks vs : List ℕ) (v : Visit) : Type 0 where

@@ -33,8 +33,8 @@ use Rattle.walk.specs.Walks.{childrenOf}
 use Rattle.held.specs.Ways.{mem}
 use Rattle.held.proofs.Heads.{held-empty, held-leaf, held-node, held-child}
 use Rattle.held.proofs.Lowest.{children-held}
-use Rattle.reading.specs.Listings.{Visit, visit, state, leafOf, nodeOf, refVisit, visitFrom, shown, listed, judged, listOf}
-use Rattle.reading.specs.Rows.{upFrom, front, shownRows, Word, Words}
+use Rattle.listing.specs.Listings.{Visit, visit, state, leafOf, nodeOf, refVisit, visitFrom, shown, listed, judged, listOf}
+use Rattle.listing.specs.Rows.{upFrom, front, shownRows, Word, Words}
 
 abbrev dig : ℕ → ℕ → ℕ
 dig = digitIn 16

@@ -11,7 +11,7 @@ use Rattle.pool.specs.Sizes.{capacityOf}
 use Rattle.pool.specs.Places.{wordAt}
 use Rattle.pool.specs.declared.Size.{Size}
 use Rattle.pool.specs.declared.Size.the-variants.{Holds, Wrong}
-use Rattle.reading.specs.Listings.{Visit, state, visit, visitFrom, shown, listed, judged, listOf}
+use Rattle.listing.specs.Listings.{Visit, state, visit, visitFrom, shown, listed, judged, listOf}
 
 -- "Order: 1, 6, 2"
 module _ (pool : List ℕ) (from : ℕ) (ks vs : List ℕ) {r : Size} (e : r ≡ capacityOf pool) where

@@ -5,7 +5,7 @@ use mathlib.Core.Bool.{Bool, true, false}
 use mathlib.Core.List.{List}
 use Prim.Native.Nat.{ℕ, zero, suc, _+_, _-_, _≤_, _<_}
 use native.Mathlib.Omega.{arith}
-use borrow.Author.Tests.{eq-eqb, ne-eqb, eqb-true, leb-true, leb-false, not-false}
+use borrow.Author.Tests.{eq-eqb, ne-eqb, eqb-true, leb-true, not-false}
 use lib.Dec.{eqb, leb, ltb}
 use Rattle.digits.specs.Choice.{pick}
 use Rattle.digits.specs.Loops.{upto, scan}
@@ -16,23 +16,11 @@ use Rattle.pool.specs.declared.Ref.the-variants.{Empty, Leaf, Node, Bad}
 use Rattle.walk.specs.Walks.{headOf, Between, isChild, childrenOf}
 use Rattle.walk.specs.declared.Head.{Head}
 use Rattle.walk.specs.declared.Head.the-variants.{Branch, Wrong}
-use Rattle.walk.proofs.Heads.{NoNode, between}
+use Rattle.walk.proofs.Heads.{NoNode, low-no-node, between}
 use Rattle.walk.proofs.Loops.{scan-true}
-use Rattle.reading.specs.Listings.{Visit, spoilt, leafOf, kidsOf, nodeOf, refVisit, visitFrom}
-use Rattle.reading.proofs.Choice.{pick-case}
-use Rattle.reading.proofs.Loops.{upto-next, upto-idle, upto-same, upto-keeps, scan-ge, scan-passes, tally-none, tally-some}
-
--- a word up to 1024 refers to no node
-pub low-no-node : (n r : ℕ) → r ≤ 1024 → NoNode (refOf n r)
-unfolding refOf
-low-no-node n r h = go (eqb r 0) (leb r 1024) refl (ltb (r - 1) n)
-  where
-    go : (a b : Bool) → leb r 1024 ≡ b → (c : Bool)
-        → NoNode (pick a Empty (pick b (pick c (Leaf (r - 1)) Bad) (pick (leb r 2047) (pick (ltb (r - 1025 + 1) n) (Node (r - 1025)) Bad) Bad)))
-    go true b e c = tt
-    go false true e true = tt
-    go false true e false = tt
-    go false false e c = absurd (omega (arith, leb-false r 1024 e))
+use Rattle.listing.specs.Listings.{Visit, spoilt, leafOf, kidsOf, nodeOf, refVisit, visitFrom}
+use Rattle.digits.proofs.Choice.{pick-case}
+use Rattle.listing.proofs.Loops.{upto-next, upto-idle, upto-same, upto-keeps, scan-ge, scan-passes, tally-none, tally-some}
 
 -- a higher one that refers to no node is damage
 high-bad : (n r : ℕ) → 1024 < r → NoNode (refOf n r) → refOf n r ≡ Bad

@@ -17,8 +17,8 @@ use Rattle.pool.specs.declared.Ref.the-variants.{Empty, Leaf, Node, Bad}
 use Rattle.walk.specs.Walks.{headOf, childrenOf}
 use Rattle.walk.specs.declared.Head.{Head}
 use Rattle.walk.specs.declared.Head.the-variants.{Branch, Wrong as Unaccepted}
-use Rattle.reading.specs.declared.listing.State.{State}
-use Rattle.reading.specs.declared.listing.Listed.{Listed}
+use Rattle.listing.specs.declared.State.{State}
+use Rattle.listing.specs.declared.Listed.{Listed}
 
 -- the two buffers, and the state of the visit: entries handed out, leaves met, and a phase: 0 the visit goes on, 1 a further entry was found,
 -- 2 damage was met

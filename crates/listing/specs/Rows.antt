@@ -1,7 +1,5 @@
--- What a lookup and a listing say of a table that is written as a list of rows.
+-- What a listing says of a table that is written as a list of rows.
 -- Assumes nothing.
-use mathlib.Core.Path.{_≡_}
-use mathlib.Core.Option.{Option, none, some}
 use mathlib.Core.List.{List, [], _∷_, _++_, map}
 use Prim.Native.Nat.{ℕ, _^_, _<_}
 use lib.Dec.{ltb}
@@ -9,16 +7,8 @@ use lib.ListN.{length, take, drop}
 use Rattle.digits.specs.Choice.{pick}
 use Rattle.tree.specs.Listing.{Entry}
 use Rattle.pool.specs.Places.{wordAt}
-use Rattle.reading.specs.Lookups.{Answer}
-use Rattle.reading.specs.Listings.{Shown, shown, listed}
+use Rattle.listing.specs.Listings.{Shown, shown, listed}
 
--- ---- lookup equals the table
--- a name that is held: 0 and its file number; one that is not: 3 and 0
-abbrev pub Finds : Option ℕ → Answer → Type 0
-Finds (some v) a = (a .number ≡ 0) × (a .value ≡ v)
-Finds none a = (a .number ≡ 3) × (a .value ≡ 0)
-
--- ---- listing equals the table
 -- the rows with a name at or above a given one
 unfoldable pub upFrom : ℕ → List (Entry ℕ) → List (Entry ℕ)
 upFrom from [] = []

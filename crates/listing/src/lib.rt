@@ -6,7 +6,7 @@ ghost use lib.ListN.{length, replicate};
 ghost use Rattle.digits.specs.Loops.{scan};
 ghost use Rattle.pool.specs.Sizes.{Sized};
 ghost use Rattle.walk.specs.Walks.{isChild};
-ghost use Rattle.reading.specs.Listings.{state, visit, damaged, leafOf, nodeOf, visitFrom, shown, listed, listOf};
+ghost use Rattle.listing.specs.Listings.{state, visit, damaged, leafOf, nodeOf, visitFrom, shown, listed, listOf};
 use digits::Header;
 use pool::Ref;
 use pool::Size;

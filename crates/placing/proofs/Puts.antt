@@ -25,12 +25,12 @@ use Rattle.walk.specs.declared.Lowest.the-variants.{Key, NoKey}
 use Rattle.walk.proofs.End.{the-type}
 use Rattle.walk.proofs.Ends.{walk-inside, walk-same, Stops, walk-last}
 use Rattle.plan.specs.Plans.{Decided, refused}
-use Rattle.planning.specs.declared.splitting.Cleft.{Cleft}
-use Rattle.planning.specs.declared.splitting.Target.the-variants.{ALeaf, ANode}
-use Rattle.planning.specs.declared.putting.Place.{Place}
-use Rattle.planning.specs.declared.putting.Place.the-variants.{Held, Gap, Apart, Refused}
-use Rattle.planning.specs.Puts.{cleftAt, placedAt, besideOf, leafPut, emptyPut, putAt, putPlan}
-use Rattle.planning.specs.Leads.{planAt, Leads}
+use Rattle.rules.specs.declared.Cleft.{Cleft}
+use Rattle.rules.specs.declared.Target.the-variants.{ALeaf, ANode}
+use Rattle.placing.specs.declared.Place.{Place}
+use Rattle.placing.specs.declared.Place.the-variants.{Held, Gap, Apart, Refused}
+use Rattle.rules.specs.Puts.{cleftAt, placedAt, besideOf, leafPut, emptyPut, putAt, putPlan}
+use Rattle.placing.specs.Leads.{planAt, Leads}
 
 -- ---- the walk's last node
 -- the reference to it is inside the pool; before the first node that counts as word 0

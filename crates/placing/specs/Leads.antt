@@ -4,9 +4,9 @@ use mathlib.Core.Path.{_≡_}
 use mathlib.Core.List.{List}
 use Prim.Native.Nat.{ℕ, _≤_, _<_}
 use Rattle.plan.specs.Plans.{Decided, refused}
-use Rattle.planning.specs.declared.putting.Place.{Place}
-use Rattle.planning.specs.declared.putting.Place.the-variants.{Held, Gap, Apart, Refused}
-use Rattle.planning.specs.Puts.{Splits, replaced, growOf, splitOf}
+use Rattle.placing.specs.declared.Place.{Place}
+use Rattle.placing.specs.declared.Place.the-variants.{Held, Gap, Apart, Refused}
+use Rattle.rules.specs.Puts.{Splits, replaced, growOf, splitOf}
 
 abbrev pub planAt : List ℕ → ℕ → ℕ → ℕ → Place → Decided
 planAt map n k v (Held i) = replaced i v

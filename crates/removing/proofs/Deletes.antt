@@ -16,7 +16,7 @@ use Rattle.walk.specs.declared.End.{End}
 use Rattle.walk.specs.declared.End.the-variants.{AtLeaf, AtEmpty, Stopped, Damaged}
 use Rattle.walk.proofs.End.{the-type}
 use Rattle.plan.specs.Plans.{refused}
-use Rattle.planning.specs.Deletes.{emptied, unlinkOf, missOf, deleteAt, deletePlan}
+use Rattle.rules.specs.Deletes.{emptied, unlinkOf, missOf, deleteAt, deletePlan}
 
 pub delete-unsized : (pool : List ℕ) (k : ℕ) {z : Size} → z ≡ capacityOf pool → z ≡ Wrong → refused 1 ≡ deletePlan pool k
 unfolding deletePlan

@@ -4,8 +4,8 @@ use mathlib.Core.List.{[], _∷_}
 use Rattle.layout.specs.Operations.{store, deleteStores, emptying, bypassing}
 use Rattle.plan.specs.Plans.{Decided, decided, refused}
 use Rattle.plan.specs.declared.Effect.the-variants.{FreesLeaf, FreesBoth}
-use Rattle.planning.specs.declared.deleting.Removal.{Removal}
-use Rattle.planning.specs.declared.deleting.Removal.the-variants.{Refused, Emptied, Bypassed, Lifted}
+use Rattle.removing.specs.declared.Removal.{Removal}
+use Rattle.removing.specs.declared.Removal.the-variants.{Refused, Emptied, Bypassed, Lifted}
 
 abbrev pub decidedBy : Removal → Decided
 decidedBy (Refused k) = refused k

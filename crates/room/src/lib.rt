@@ -1,11 +1,13 @@
-// The lowest free slot of a map.
+// The lowest free slots of a map.
 ghost use mathlib.Core.Path.{_≡_};
 ghost use Prim.Native.Nat.{_+_, _<_, _≤_};
 ghost use lib.Dec.{eqb};
 ghost use lib.ListN.{length, getD};
 ghost use Rattle.digits.specs.Choice.{pick};
 ghost use Rattle.digits.specs.Loops.{tally};
-ghost use Rattle.planning.specs.Puts.{freeFrom};
+ghost use Rattle.pool.specs.Sizes.{bytesOf};
+ghost use Rattle.rules.specs.Puts.{freeFrom, roomOf};
+use rules::Room;
 
 // Bytes of a map that are looked at together.
 const BLOCK: usize = 64;
@@ -94,4 +96,20 @@ pub fn lowest_free(map: &[u8], from: usize, to: usize) -> usize
         }
     }
     free_by_byte(map, i, to)
+}
+
+// The free leaf and the free node that a split takes.
+pub fn find_room(map: &[u8], n: usize) -> Room
+    requires { ⌜ (n ≤ 1024) × (length (now map) ≡ bytesOf n) × (1 ≤ n) ⌝ }
+    ensures { λ r. ⌜ r ≡ roomOf (now (map .entry)) n ⌝ }
+{
+    let leaf = lowest_free(map, 0, n);
+    if n <= leaf {
+        return Room::Full;
+    }
+    let byte = lowest_free(map, n, map.len());
+    if map.len() <= byte {
+        return Room::Full;
+    }
+    Room::Slots(leaf, byte)
 }

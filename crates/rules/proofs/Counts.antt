@@ -7,10 +7,10 @@ use Rattle.tree.specs.Stores.{block, tab}
 use Rattle.layout.specs.Operations.{putStores, growing}
 use Rattle.walk.specs.declared.Spot.{Spot}
 use Rattle.walk.specs.declared.Lowest.the-variants.{Key}
-use Rattle.planning.specs.declared.splitting.Cleft.{Cleft}
-use Rattle.planning.specs.declared.splitting.Target.the-variants.{ALeaf, ANode}
-use Rattle.planning.specs.Puts.{cleaving, replaced}
-use Rattle.planning.specs.Deletes.{emptied, bypassed, liftOf}
+use Rattle.rules.specs.declared.Cleft.{Cleft}
+use Rattle.rules.specs.declared.Target.the-variants.{ALeaf, ANode}
+use Rattle.rules.specs.Puts.{cleaving, replaced}
+use Rattle.rules.specs.Deletes.{emptied, bypassed, liftOf}
 
 -- "k is found: one store"
 pub replaced-count : (i v : ℕ) → length (replaced i v .stores) ≡ 1

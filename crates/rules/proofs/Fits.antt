@@ -35,21 +35,21 @@ use Rattle.walk.specs.declared.End.the-variants.{AtLeaf, AtEmpty, Stopped, Dama
 use Rattle.walk.specs.declared.Lowest.{Lowest}
 use Rattle.walk.specs.declared.Lowest.the-variants.{Key, NoKey}
 use Rattle.walk.proofs.Ends.{walk-inside}
-use Rattle.layout.specs.Operations.{store, putStores}
+use Rattle.layout.specs.Operations.{putStores}
 use Rattle.plan.specs.Plans.{Decided, refused, planOf, plannedOf}
 use Rattle.plan.specs.Effects.{Inside}
 use Rattle.plan.specs.declared.Plan.{Plan}
 use Rattle.plan.specs.declared.Effect.{Effect}
 use Rattle.plan.proofs.Laws.{unused, plan-word, plan-value}
-use Rattle.planning.specs.declared.splitting.Cleft.{Cleft}
-use Rattle.planning.specs.declared.splitting.Target.{Target}
-use Rattle.planning.specs.declared.splitting.Target.the-variants.{ALeaf, ANode}
-use Rattle.planning.specs.declared.splitting.Room.{Room}
-use Rattle.planning.specs.declared.splitting.Room.the-variants.{Slots, Full}
-use Rattle.planning.specs.Puts.{freeLeaf, growOf, splitChild, targetHeader, cleaving, roomOf, splitIn, splitOf}
-use Rattle.planning.specs.Puts.{cleftAt, placedAt, besideOf, belowLast, putAt, putIn, putPlan}
-use Rattle.planning.specs.Deletes.{emptied, liftOf, liftAt, mergeOf, unlinkOf, deleteAt, deleteIn, deletePlan}
-use Rattle.planning.proofs.Splits.{slots-inside, split-all}
+use Rattle.rules.specs.declared.Cleft.{Cleft}
+use Rattle.rules.specs.declared.Target.{Target}
+use Rattle.rules.specs.declared.Target.the-variants.{ALeaf, ANode}
+use Rattle.rules.specs.declared.Room.{Room}
+use Rattle.rules.specs.declared.Room.the-variants.{Slots, Full}
+use Rattle.rules.specs.Puts.{freeLeaf, growOf, splitChild, targetHeader, cleaving, roomOf, splitIn, splitOf}
+use Rattle.rules.specs.Puts.{cleftAt, placedAt, besideOf, belowLast, putAt, putIn, putPlan}
+use Rattle.rules.specs.Deletes.{emptied, liftOf, liftAt, mergeOf, unlinkOf, deleteAt, deleteIn, deletePlan}
+use Rattle.rules.proofs.Splits.{slots-inside, split-all}
 
 -- a plan of so many stores, or a refusal that does nothing, with one of these numbers
 pub data Answers (numbers counts : List ℕ) (d : Decided) : Type 0 where

@@ -36,8 +36,8 @@ use Rattle.held.proofs.Heads.{held-leaf, held-node, held-slot, held-child}
 use Rattle.held.proofs.Walks.{walk-held}
 use Rattle.held.proofs.Lowest.{children-held, Other, other-held, low-held}
 use Rattle.held.proofs.Spots.{spot-word, spot-depth, spot-below, way-on, way-finds, way-ends, NoNode}
-use Rattle.planning.proofs.HeldPuts.{ref-above}
-use Rattle.planning.specs.Deletes.{emptied, mergeWith, unlinkOf, deleteAt, deletePlan}
+use Rattle.rules.proofs.HeldPuts.{ref-above}
+use Rattle.rules.specs.Deletes.{emptied, mergeWith, unlinkOf, deleteAt, deletePlan}
 
 -- what the plan of a delete of k is: a refusal where the key is not held, or stores that take it out
 pub data DeleteIs (pool : List ℕ) (n : ℕ) (t : Tree ℕ) (k : ℕ) (d : Decided) : Type 0 where

@@ -44,13 +44,13 @@ use Rattle.held.proofs.Walks.{walk-held}
 use Rattle.held.proofs.Lowest.{low-held}
 use Rattle.held.proofs.Spots.{spot-word, spot-depth, spot-below, way-on, way-finds, way-ends, NoNode}
 use Rattle.held.proofs.Nearest.{way-more, near-leaf, near-empty, low-apart, LastNode}
-use Rattle.planning.specs.declared.splitting.Cleft.{Cleft}
-use Rattle.planning.specs.declared.splitting.Target.{Target}
-use Rattle.planning.specs.declared.splitting.Target.the-variants.{ALeaf, ANode}
-use Rattle.planning.specs.Puts.{freeLeaf, freeNode, growOf, targetHeader, cleaving, splitOf, cleftAt}
-use Rattle.planning.specs.Puts.{placedAt, besideOf, leafPut, emptyPut, putAt, putPlan}
-use Rattle.planning.proofs.Splits.{split-all}
-use Rattle.planning.proofs.HeldRoom.{leaf-free, node-free, node-room, leaf-fewer, all-held}
+use Rattle.rules.specs.declared.Cleft.{Cleft}
+use Rattle.rules.specs.declared.Target.{Target}
+use Rattle.rules.specs.declared.Target.the-variants.{ALeaf, ANode}
+use Rattle.rules.specs.Puts.{freeLeaf, freeNode, growOf, targetHeader, cleaving, splitOf, cleftAt}
+use Rattle.rules.specs.Puts.{placedAt, besideOf, leafPut, emptyPut, putAt, putPlan}
+use Rattle.rules.proofs.Splits.{split-all}
+use Rattle.rules.proofs.HeldRoom.{leaf-free, node-free, node-room, leaf-fewer, all-held}
 
 -- a tree in which a key's walk comes to a leaf is not empty
 way-filled : (k x k′ v′ : ℕ) (t : Tree ℕ) → sub (way dig 16 k t) t ≡ leaf x k′ v′ → Filled t

@@ -19,7 +19,7 @@ use Rattle.layout.proofs.Room.{leaves-fit, free-leaf, free-node, no-leaf-free}
 use Rattle.walk.proofs.Loops.{scan-true}
 use Rattle.held.specs.Ways.{mem}
 use Rattle.held.specs.Maps.{Marked}
-use Rattle.planning.specs.Puts.{freeFrom, freeLeaf, freeNode}
+use Rattle.rules.specs.Puts.{freeFrom, freeLeaf, freeNode}
 
 -- the lowest free byte of a part of the map
 scan-from : (n i : ℕ) (test : ℕ → Bool) → i ≤ scan n i test

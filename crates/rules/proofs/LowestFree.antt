@@ -14,7 +14,7 @@ use Rattle.digits.specs.Choice.{pick}
 use Rattle.digits.specs.Loops.{scan, tally}
 use Rattle.tree.proofs.Basics.{Same?, same, other, same?, less?, last?}
 use Rattle.walk.proofs.Loops.{scan-here, scan-next, scan-none, scan-true, tally-true, tally-false}
-use Rattle.planning.specs.Puts.{freeFrom}
+use Rattle.rules.specs.Puts.{freeFrom}
 
 -- ---- scans and counts
 module _ (test : ℕ → Bool) where

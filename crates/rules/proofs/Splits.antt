@@ -3,7 +3,7 @@
 use mathlib.Core.Path.{_≡_, refl, ap, _∙_}
 use mathlib.Core.Bool.{Bool, true, false}
 use mathlib.Core.List.{List}
-use Prim.Native.Nat.{ℕ, _+_, _-_, _≤_, _<_}
+use Prim.Native.Nat.{ℕ, _+_, _≤_, _<_}
 use native.Mathlib.Omega.{arith}
 use borrow.Author.Tests.{lt-ltb, le-ltb, ltb-true}
 use lib.Dec.{ltb}
@@ -13,12 +13,12 @@ use Rattle.tree.proofs.Stores.{Words, words-append}
 use Rattle.pool.specs.Sizes.{bytesOf}
 use Rattle.pool.specs.Places.{leafWord}
 use Rattle.layout.specs.Operations.{leafStores, nodeStores, putStores}
-use Rattle.planning.specs.declared.splitting.Cleft.{Cleft}
-use Rattle.planning.specs.declared.splitting.Target.{Target}
-use Rattle.planning.specs.declared.splitting.Target.the-variants.{ALeaf, ANode}
-use Rattle.planning.specs.declared.splitting.Room.the-variants.{Slots, Full}
-use Rattle.planning.specs.Puts.{freeFrom, freeLeaf, freeNode, targetHeader, cleaving, roomOf}
-use Rattle.planning.proofs.LowestFree.{free-found}
+use Rattle.rules.specs.declared.Cleft.{Cleft}
+use Rattle.rules.specs.declared.Target.{Target}
+use Rattle.rules.specs.declared.Target.the-variants.{ALeaf, ANode}
+use Rattle.rules.specs.declared.Room.the-variants.{Slots, Full}
+use Rattle.rules.specs.Puts.{freeFrom, freeLeaf, freeNode, targetHeader, cleaving, roomOf}
+use Rattle.rules.proofs.LowestFree.{free-found}
 
 -- ---- room
 module _ (map : List ℕ) (n : ℕ) where

@@ -21,11 +21,11 @@ use Rattle.walk.specs.declared.Lowest.{Lowest}
 use Rattle.walk.specs.declared.Lowest.the-variants.{Key, NoKey}
 use Rattle.plan.specs.Plans.{Decided, decided, refused}
 use Rattle.plan.specs.declared.Effect.the-variants.{Nothing, TakesLeaf, TakesBoth}
-use Rattle.planning.specs.declared.splitting.Cleft.{Cleft}
-use Rattle.planning.specs.declared.splitting.Target.{Target}
-use Rattle.planning.specs.declared.splitting.Target.the-variants.{ALeaf, ANode}
-use Rattle.planning.specs.declared.splitting.Room.{Room}
-use Rattle.planning.specs.declared.splitting.Room.the-variants.{Slots, Full}
+use Rattle.rules.specs.declared.Cleft.{Cleft}
+use Rattle.rules.specs.declared.Target.{Target}
+use Rattle.rules.specs.declared.Target.the-variants.{ALeaf, ANode}
+use Rattle.rules.specs.declared.Room.{Room}
+use Rattle.rules.specs.declared.Room.the-variants.{Slots, Full}
 
 -- "New leaves and nodes are the lowest-numbered free ones." The lowest free byte of a map from one byte to another, or the other.
 abbrev pub freeFrom : List ℕ → ℕ → ℕ → ℕ

@@ -8,7 +8,7 @@ use Rattle.digits.specs.Loops.{upto}
 use Rattle.answers.specs.Answers.{Page, textOf, written, entriesOf}
 use Rattle.answers.specs.declared.Answer.{Answer}
 use Rattle.answers.specs.declared.Answer.the-variants.{Entry, End}
-use Rattle.session.specs.Turns.{entries, printed}
+use Rattle.turns.specs.Turns.{entries, printed}
 
 pub printed-append : (answers more : List Answer) (p : Page) → printed (answers ++ more) p ≡ printed more (printed answers p)
 unfolding printed

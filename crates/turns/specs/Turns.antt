@@ -5,11 +5,11 @@ use Prim.Native.Nat.{ℕ, zero, suc, min}
 use lib.ListN.{length, getD, replicate}
 use Rattle.plan.specs.Plans.{Ran, runOf, plannedOf}
 use Rattle.plan.specs.declared.Planned.{Planned}
-use Rattle.reading.specs.Lookups.{lookupOf}
-use Rattle.reading.specs.Lookups as found
-use Rattle.reading.specs.Listings.{Shown, listOf}
-use Rattle.planning.specs.Puts.{putPlan}
-use Rattle.planning.specs.Deletes.{deletePlan}
+use Rattle.finding.specs.Lookups.{lookupOf}
+use Rattle.finding.specs.Lookups as found
+use Rattle.listing.specs.Listings.{Shown, listOf}
+use Rattle.rules.specs.Puts.{putPlan}
+use Rattle.rules.specs.Deletes.{deletePlan}
 use Rattle.writing.specs.Calls.{putOf, deleteOf}
 use Rattle.writing.specs.Calls as call
 use Rattle.opening.specs.Openings.{openOf}

@@ -2,13 +2,13 @@
 ghost use mathlib.Core.Path.{_≡_};
 ghost use mathlib.Core.List.{[], _∷_};
 ghost use lib.ListN.{replicate};
-ghost use Rattle.reading.specs.Lookups.{told, lookupOf};
-ghost use Rattle.reading.specs.Listings.{listOf};
+ghost use Rattle.finding.specs.Lookups.{told, lookupOf};
+ghost use Rattle.listing.specs.Listings.{listOf};
 ghost use Rattle.answers.specs.Answers.{page};
-ghost use Rattle.session.specs.Turns.{acted, memory, getAnswer, listAnswers, printed, cutTurn, turned};
+ghost use Rattle.turns.specs.Turns.{acted, memory, getAnswer, listAnswers, printed, cutTurn, turned};
 use answers::Answer;
+use finding::Found;
 use plan::Planned;
-use reading::Found;
 use script::Turn;
 
 // Entries of a listing, at most.
@@ -46,7 +46,7 @@ fn found(f: Found) -> Answer
 fn get(pool: &[u64], out: &mut [u8], at: usize, key: u64) -> usize
     ensures { λ r. ⌜ page (now (out .exit)) r ≡ printed (getAnswer (lookupOf (now (pool .entry)) key) ∷ []) (page (now (out .entry)) at) ⌝ }
 {
-    let answer = found(reading::lookup(pool, key));
+    let answer = found(finding::lookup(pool, key));
     answers::write_answer(out, at, answer)
 }
 
@@ -56,7 +56,7 @@ fn list(pool: &[u64], out: &mut [u8], at: usize) -> usize
 {
     let mut keys = [0u64; ENTRIES];
     let mut values = [0u64; ENTRIES];
-    let listed = reading::list(pool, 0, &mut keys, &mut values);
+    let listed = listing::list(pool, 0, &mut keys, &mut values);
     let count = listed.count;
     answers::write_listing(out, at, &keys, &values, count)
 }

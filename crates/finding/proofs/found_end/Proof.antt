@@ -1,8 +1,8 @@
 -- `found_end` answers by what the reference means; of a leaf, its key decides. Assumes nothing.
 use borrow.Author.Needs.{needs}
 use borrow.Author.Tests.{eq-eqb, ne-eqb}
-use Rattle.reading.proofs.finding.found_end.Statement.{statement}
-use Rattle.reading.proofs.finding.found_end.Tie as tie
+use Rattle.finding.proofs.found_end.Statement.{statement}
+use Rattle.finding.proofs.found_end.Tie as tie
 
 enum-known-r : tie.Need-enum-known-r
 enum-known-r c = search needs

@@ -8,11 +8,11 @@ use Rattle.pool.specs.Sizes.{Sized}
 use Rattle.pool.specs.Places.{wordAt}
 use Rattle.walk.specs.Walks.{walkOf}
 use Rattle.walk.specs.Ends.{Accepted}
-use Rattle.walk.proofs.Heads.{NoNode, unmatched, refused, accepted}
-use Rattle.reading.specs.Lookups.{foundAt, lookupOf}
-use Rattle.reading.proofs.Lookups.{low-no-node, Comes, comes-root, comes-end, comes-damaged, comes-below, lookup-wrong, lookup-holds}
-use Rattle.reading.proofs.finding.lookup.Statement.{statement}
-use Rattle.reading.proofs.finding.lookup.Tie as tie
+use Rattle.walk.proofs.Heads.{NoNode, low-no-node, unmatched, refused, accepted}
+use Rattle.finding.specs.Lookups.{foundAt, lookupOf}
+use Rattle.finding.proofs.Lookups.{Comes, comes-root, comes-end, comes-damaged, comes-below, lookup-wrong, lookup-holds}
+use Rattle.finding.proofs.lookup.Statement.{statement}
+use Rattle.finding.proofs.lookup.Tie as tie
 
 abbrev Inv-loop : tie.InvT-loop
 Inv-loop pool key n x₀ w₀ nodes₀ x w nodes = Sized pool n × Comes pool n key x w nodes × (foundAt pool key (walkOf pool n key) ≡ lookupOf pool key)

@@ -7,8 +7,8 @@ use borrow.Author.Needs.{needs}
 use borrow.Author.Fill.{fill-more}
 use lib.ListN.{length, drop, replicate, length-set}
 use lib.Seq.{drop-length}
-use Rattle.plan.proofs.clear.Statement.{statement}
-use Rattle.plan.proofs.clear.Tie as tie
+use Rattle.finishing.proofs.clear.Statement.{statement}
+use Rattle.finishing.proofs.clear.Tie as tie
 
 abbrev Inv-loop : tie.InvT-loop
 Inv-loop map₀ i₀ map i = (i ≤ length map₀) × (length map ≡ length map₀) × (map ≡ replicate i 0 ++ drop i map₀)

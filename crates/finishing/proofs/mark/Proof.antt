@@ -1,8 +1,8 @@
 -- `mark` stores where the place is inside. Assumes nothing.
 use borrow.Author.Tests.{lt-ltb, le-ltb}
 use borrow.Author.Needs.{needs}
-use Rattle.plan.proofs.mark.Statement.{statement}
-use Rattle.plan.proofs.mark.Tie as tie
+use Rattle.finishing.proofs.mark.Statement.{statement}
+use Rattle.finishing.proofs.mark.Tie as tie
 
 returns : tie.Need-returns
 returns c = simp (le-ltb _ _ (c .if1 .taken))

@@ -1,8 +1,8 @@
 -- `mark_both` judges both places before it stores to either. Assumes nothing.
 use borrow.Author.Tests.{lt-ltb, le-ltb}
 use borrow.Author.Needs.{needs}
-use Rattle.plan.proofs.mark_both.Statement.{statement}
-use Rattle.plan.proofs.mark_both.Tie as tie
+use Rattle.finishing.proofs.mark_both.Statement.{statement}
+use Rattle.finishing.proofs.mark_both.Tie as tie
 
 returns : tie.Need-returns
 returns c = simp (le-ltb _ _ (c .if1 .taken))

@@ -1,7 +1,7 @@
 -- `take_effect` goes by the effect, each kind by `mark` or `mark_both`. Assumes nothing.
 use borrow.Author.Needs.{needs}
-use Rattle.plan.proofs.take_effect.Statement.{statement}
-use Rattle.plan.proofs.take_effect.Tie as tie
+use Rattle.finishing.proofs.take_effect.Statement.{statement}
+use Rattle.finishing.proofs.take_effect.Tie as tie
 
 enum-told : tie.Need-enum-told
 enum-told c = search needs

@@ -1,7 +1,7 @@
 -- `effect_in` tries the numbers in the definition's order. Assumes nothing.
 use borrow.Author.Tests.{eq-eqb, ne-eqb}
-use Rattle.wort.proofs.effect_in.Statement.{statement}
-use Rattle.wort.proofs.effect_in.Tie as tie
+use Rattle.handing.proofs.effect_in.Statement.{statement}
+use Rattle.handing.proofs.effect_in.Tie as tie
 
 returns : tie.Need-returns
 returns c = simp (eq-eqb _ _ (c .if1 .taken))

@@ -1,10 +1,10 @@
 -- `hand_out` writes the count and the effect, then the stores. Assumes nothing.
 use borrow.Author.Needs.{needs}
 use mathlib.Core.Path.{ap}
-use Rattle.wort.specs.Answers.{planned}
-use Rattle.wort.proofs.Laws.{laid-out}
-use Rattle.wort.proofs.hand_out.Statement.{statement}
-use Rattle.wort.proofs.hand_out.Tie as tie
+use Rattle.handing.specs.Plans.{planned}
+use Rattle.handing.proofs.Laws.{laid-out}
+use Rattle.handing.proofs.hand_out.Statement.{statement}
+use Rattle.handing.proofs.hand_out.Tie as tie
 
 element-write-plan : tie.Need-element-write-plan
 element-write-plan c = search needs

@@ -1,7 +1,7 @@
 -- `lay_effect` goes by the effect, each kind by `lay_words`. Assumes nothing.
 use borrow.Author.Needs.{needs}
-use Rattle.wort.proofs.lay_effect.Statement.{statement}
-use Rattle.wort.proofs.lay_effect.Tie as tie
+use Rattle.handing.proofs.lay_effect.Statement.{statement}
+use Rattle.handing.proofs.lay_effect.Tie as tie
 
 enum-told : tie.Need-enum-told
 enum-told c = search needs

@@ -4,9 +4,9 @@ use mathlib.Core.Path.{_≡_, _∙_}
 use Prim.Native.Nat.{_-_, _≤_}
 use native.Mathlib.Omega.{arith}
 use lib.ListN.{length, length-set}
-use Rattle.wort.proofs.Laws.{written, written-none, written-next, written-all}
-use Rattle.wort.proofs.lay_stores.Statement.{statement}
-use Rattle.wort.proofs.lay_stores.Tie as tie
+use Rattle.handing.proofs.Laws.{written, written-none, written-next, written-all}
+use Rattle.handing.proofs.lay_stores.Statement.{statement}
+use Rattle.handing.proofs.lay_stores.Tie as tie
 
 abbrev Inv-loop : tie.InvT-loop
 Inv-loop plan₀ words values i₀ plan i = (i ≤ 21) × (length plan ≡ 46) × (plan ≡ written i plan₀ words values)

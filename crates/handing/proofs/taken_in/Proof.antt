@@ -5,9 +5,9 @@ use mathlib.Core.List.{List}
 use Prim.Native.Nat.{ℕ, _-_, _≤_}
 use native.Mathlib.Omega.{arith}
 use lib.ListN.{take, drop, replicate}
-use Rattle.wort.proofs.Laws.{copied, taken-next, taken-all}
-use Rattle.wort.proofs.taken_in.Statement.{statement}
-use Rattle.wort.proofs.taken_in.Tie as tie
+use Rattle.handing.proofs.Laws.{copied, taken-next, taken-all}
+use Rattle.handing.proofs.taken_in.Statement.{statement}
+use Rattle.handing.proofs.taken_in.Tie as tie
 
 abbrev Inv-loop : tie.InvT-loop
 Inv-loop plan words₀ values₀ i₀ words values i = (i ≤ 21) × (words ≡ copied i (drop 4 plan) words₀) × (values ≡ copied i (drop 25 plan) values₀)

@@ -10,10 +10,10 @@ use lib.ListN.{length}
 use Rattle.digits.specs.Loops.{upto}
 use Rattle.walk.specs.Walks.{Between, isChild}
 use Rattle.walk.specs.declared.Head.the-variants.{Branch}
-use Rattle.walk.proofs.Heads.{unmatched}
-use Rattle.reading.specs.Listings.{visit, nodeOf, visitFrom}
-use Rattle.reading.proofs.Loops.{scan-ge, scan-le}
-use Rattle.reading.proofs.Visits.{low-no-node, visit-over, visit-bad, visit-end, visit-node, kid, kid-end, kid-ref, node-refused, node-childless, node-visits, kids-first, kids-next, kids-over}
+use Rattle.walk.proofs.Heads.{low-no-node, unmatched}
+use Rattle.listing.specs.Listings.{visit, nodeOf, visitFrom}
+use Rattle.listing.proofs.Loops.{scan-ge, scan-le}
+use Rattle.listing.proofs.Visits.{visit-over, visit-bad, visit-end, visit-node, kid, kid-end, kid-ref, node-refused, node-childless, node-visits, kids-first, kids-next, kids-over}
 use Rattle.pool.proofs.child.Kinds as child-kinds
 use Rattle.pool.proofs.child.Reads as child-reads
 use Rattle.pool.proofs.header.Kinds as header-kinds
@@ -22,20 +22,20 @@ use Rattle.pool.proofs.reference.Kinds as reference-kinds
 use Rattle.pool.proofs.reference.Reads as reference-reads
 use Rattle.walk.proofs.accept.Kinds as accept-kinds
 use Rattle.walk.proofs.accept.Reads as accept-reads
-use Rattle.reading.proofs.listing.next_child.Kinds as next-child-kinds
-use Rattle.reading.proofs.listing.next_child.Reads as next-child-reads
-use Rattle.reading.proofs.listing.spoil.Kinds as spoil-kinds
-use Rattle.reading.proofs.listing.spoil.Reads as spoil-reads
-use Rattle.reading.proofs.listing.visit_end.Kinds as visit-end-kinds
-use Rattle.reading.proofs.listing.visit_end.Reads as visit-end-reads
-use Rattle.reading.proofs.listing.visit_node.Kinds as visit-node-kinds
-use Rattle.reading.proofs.listing.visit_node.Reads as visit-node
-use Rattle.reading.proofs.listing.visit_ref.Kinds as visit-ref-kinds
-use Rattle.reading.proofs.listing.visit_ref.Reads as visit-ref
-use Rattle.reading.proofs.listing.+visit_node+visit_ref.Lts-visit_node as visit-node-lts
-use Rattle.reading.proofs.listing.+visit_node+visit_ref.Lts-visit_ref as visit-ref-lts
-use Rattle.reading.proofs.listing.+visit_node+visit_ref.{statement}
-use Rattle.reading.proofs.listing.+visit_node+visit_ref.Tie.{close}
+use Rattle.listing.proofs.next_child.Kinds as next-child-kinds
+use Rattle.listing.proofs.next_child.Reads as next-child-reads
+use Rattle.listing.proofs.spoil.Kinds as spoil-kinds
+use Rattle.listing.proofs.spoil.Reads as spoil-reads
+use Rattle.listing.proofs.visit_end.Kinds as visit-end-kinds
+use Rattle.listing.proofs.visit_end.Reads as visit-end-reads
+use Rattle.listing.proofs.visit_node.Kinds as visit-node-kinds
+use Rattle.listing.proofs.visit_node.Reads as visit-node
+use Rattle.listing.proofs.visit_ref.Kinds as visit-ref-kinds
+use Rattle.listing.proofs.visit_ref.Reads as visit-ref
+use Rattle.listing.proofs.+visit_node+visit_ref.Lts-visit_node as visit-node-lts
+use Rattle.listing.proofs.+visit_node+visit_ref.Lts-visit_ref as visit-ref-lts
+use Rattle.listing.proofs.+visit_node+visit_ref.{statement}
+use Rattle.listing.proofs.+visit_node+visit_ref.Tie.{close}
 
 abbrev μ-visit-node : Measures 3 visit-node-kinds.ps ℕ
 μ-visit-node κs a = 2 * a .1 .1 .1 .0

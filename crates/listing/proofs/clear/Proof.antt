@@ -7,8 +7,8 @@ use borrow.Author.Fill.{fill-more}
 use borrow.Author.Needs.{needs}
 use lib.ListN.{length, drop, replicate, length-set}
 use lib.Seq.{drop-length}
-use Rattle.reading.proofs.listing.clear.Statement.{statement}
-use Rattle.reading.proofs.listing.clear.Tie as tie
+use Rattle.listing.proofs.clear.Statement.{statement}
+use Rattle.listing.proofs.clear.Tie as tie
 
 abbrev Inv-loop : tie.InvT-loop
 Inv-loop buffer₀ i₀ buffer i = (i ≤ length buffer₀) × (length buffer ≡ length buffer₀) × (buffer ≡ replicate i 0 ++ drop i buffer₀)

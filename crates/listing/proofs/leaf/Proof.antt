@@ -1,9 +1,9 @@
 -- `leaf` judges in the definition's order: the count of leaves met, the key, the room. Assumes nothing.
 use borrow.Author.Needs.{needs}
 use borrow.Author.Tests.{lt-ltb, le-ltb, le-leb, lt-leb}
-use Rattle.reading.specs.Listings.{leafOf}
-use Rattle.reading.proofs.listing.leaf.Statement.{statement}
-use Rattle.reading.proofs.listing.leaf.Tie as tie
+use Rattle.listing.specs.Listings.{leafOf}
+use Rattle.listing.proofs.leaf.Statement.{statement}
+use Rattle.listing.proofs.leaf.Tie as tie
 
 spoil-requires : tie.Need-spoil-requires
 spoil-requires c κs = search needs

@@ -3,10 +3,10 @@ use mathlib.Core.Path.{_≡_, _∙_}
 use native.Mathlib.Omega.{arith}
 use borrow.Author.Needs.{needs}
 use Rattle.pool.specs.Places.{wordAt}
-use Rattle.reading.specs.Listings.{Visit, state, visit, visitFrom, judged, listOf}
-use Rattle.reading.proofs.Listings.{list-wrong, list-none, list-unequal, list-judged, judged-damage, judged-done}
-use Rattle.reading.proofs.listing.list.Statement.{statement}
-use Rattle.reading.proofs.listing.list.Tie as tie
+use Rattle.listing.specs.Listings.{Visit, state, visit, visitFrom, judged, listOf}
+use Rattle.listing.proofs.Listings.{list-wrong, list-none, list-unequal, list-judged, judged-damage, judged-done}
+use Rattle.listing.proofs.list.Statement.{statement}
+use Rattle.listing.proofs.list.Tie as tie
 
 capacity-requires : tie.Need-capacity-requires
 capacity-requires c κs = search needs

@@ -7,8 +7,8 @@ use Rattle.digits.specs.Loops.{scan}
 use Rattle.walk.specs.Walks.{isChild}
 use Rattle.walk.proofs.Loops.{scan-none}
 use Rattle.walk.proofs.Nodes.{lowest-here, lowest-later}
-use Rattle.reading.proofs.listing.next_child.Statement.{statement}
-use Rattle.reading.proofs.listing.next_child.Tie as tie
+use Rattle.listing.proofs.next_child.Statement.{statement}
+use Rattle.listing.proofs.next_child.Tie as tie
 
 abbrev Inv-loop : tie.InvT-loop
 Inv-loop pool n j at next₀ next = scan (16 - next) next (isChild pool n j) ≡ scan (16 - at) at (isChild pool n j)

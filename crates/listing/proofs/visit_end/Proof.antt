@@ -1,9 +1,9 @@
 -- `visit_end` is a visit with no node left. Assumes nothing.
 use mathlib.Core.Path.{sym, _∙_}
 use borrow.Author.Needs.{needs}
-use Rattle.reading.proofs.Visits.{visit-over, visit-on}
-use Rattle.reading.proofs.listing.visit_end.Statement.{statement}
-use Rattle.reading.proofs.listing.visit_end.Tie as tie
+use Rattle.listing.proofs.Visits.{visit-over, visit-on}
+use Rattle.listing.proofs.visit_end.Statement.{statement}
+use Rattle.listing.proofs.visit_end.Tie as tie
 
 returns : tie.Need-returns
 returns c = sym (visit-over _ _ _ 0 16 _ (c .if1 .taken))

@@ -1,9 +1,9 @@
 -- `beside` goes by the first differing digit and by where the walk to it ends. It rests on the laws of puts. Assumes nothing.
 use native.Mathlib.Omega.{arith}
 use borrow.Author.Needs.{needs}
-use Rattle.planning.proofs.Puts.{beside-same, leaf-at, leaf-apart, node-at, node-apart, few-nodes, gap-there, gap-elsewhere, beside-damaged, Walked}
-use Rattle.planning.proofs.putting.beside.Statement.{statement}
-use Rattle.planning.proofs.putting.beside.Tie as tie
+use Rattle.placing.proofs.Puts.{beside-same, leaf-at, leaf-apart, node-at, node-apart, few-nodes, gap-there, gap-elsewhere, beside-damaged, Walked}
+use Rattle.placing.proofs.beside.Statement.{statement}
+use Rattle.placing.proofs.beside.Tie as tie
 
 first-diff-requires : tie.Need-first-diff-requires
 first-diff-requires c κs = search needs

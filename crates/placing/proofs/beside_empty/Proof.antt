@@ -1,10 +1,10 @@
 -- `beside_empty`: the root is empty, or the key goes beside the lowest leaf of the walk's last node. Assumes nothing.
 use native.Mathlib.Omega.{arith}
 use Rattle.digits.proofs.Digits.{first-diff-le}
-use Rattle.planning.proofs.Puts.{root-empty, no-key-below, key-below, gap-below}
+use Rattle.placing.proofs.Puts.{root-empty, no-key-below, key-below, gap-below}
 use borrow.Author.Needs.{needs}
-use Rattle.planning.proofs.putting.beside_empty.Statement.{statement}
-use Rattle.planning.proofs.putting.beside_empty.Tie as tie
+use Rattle.placing.proofs.beside_empty.Statement.{statement}
+use Rattle.placing.proofs.beside_empty.Tie as tie
 
 returns : tie.Need-returns
 returns c = root-empty (c .before .before .before .args .pool .now) _ _ _ (c .if1 .taken)

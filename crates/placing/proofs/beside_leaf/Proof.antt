@@ -1,9 +1,9 @@
 -- `beside_leaf`: the leaf's key is the put's, or another: then the leaf is split off where it stands, or the second walk finds what is split.
 -- Assumes nothing.
 use borrow.Author.Needs.{needs}
-use Rattle.planning.proofs.Puts.{beside-same, key-held, key-other, leaf-apart-here}
-use Rattle.planning.proofs.putting.beside_leaf.Statement.{statement}
-use Rattle.planning.proofs.putting.beside_leaf.Tie as tie
+use Rattle.placing.proofs.Puts.{beside-same, key-held, key-other, leaf-apart-here}
+use Rattle.placing.proofs.beside_leaf.Statement.{statement}
+use Rattle.placing.proofs.beside_leaf.Tie as tie
 
 leaf-key-requires : tie.Need-leaf-key-requires
 leaf-key-requires c κs = search needs

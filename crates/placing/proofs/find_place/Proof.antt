@@ -3,9 +3,9 @@ use mathlib.Core.Path.{sym, _∙_}
 use native.Mathlib.Omega.{arith}
 use borrow.Author.Needs.{needs}
 use Rattle.walk.proofs.Ends.{walk-inside}
-use Rattle.planning.proofs.Puts.{over-inside, ends-lead, ends-damaged}
-use Rattle.planning.proofs.putting.find_place.Statement.{statement}
-use Rattle.planning.proofs.putting.find_place.Tie as tie
+use Rattle.placing.proofs.Puts.{over-inside, ends-lead, ends-damaged}
+use Rattle.placing.proofs.find_place.Statement.{statement}
+use Rattle.placing.proofs.find_place.Tie as tie
 
 walk-requires : tie.Need-walk-requires
 walk-requires c κs = search needs

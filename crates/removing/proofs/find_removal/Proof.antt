@@ -4,10 +4,10 @@ use native.Mathlib.Omega.{arith}
 use Rattle.pool.specs.declared.Ref.the-variants.{Leaf}
 use Rattle.walk.specs.Ends.{Stands}
 use Rattle.walk.proofs.Ends.{walk-inside}
-use Rattle.planning.proofs.Deletes.{delete-missed, delete-absent, delete-root, delete-below, Walked}
+use Rattle.removing.proofs.Deletes.{delete-missed, delete-absent, delete-root, delete-below, Walked}
 use borrow.Author.Needs.{needs}
-use Rattle.planning.proofs.deleting.find_removal.Statement.{statement}
-use Rattle.planning.proofs.deleting.find_removal.Tie as tie
+use Rattle.removing.proofs.find_removal.Statement.{statement}
+use Rattle.removing.proofs.find_removal.Tie as tie
 
 walk-requires : tie.Need-walk-requires
 walk-requires c κs = search needs

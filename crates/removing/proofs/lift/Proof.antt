@@ -1,8 +1,8 @@
 -- `lift` comes to two stores: the reference to the leaf's node, then the other child's header. Assumes nothing.
 use native.Mathlib.Omega.{arith}
 use borrow.Author.Needs.{needs}
-use Rattle.planning.proofs.deleting.lift.Statement.{statement}
-use Rattle.planning.proofs.deleting.lift.Tie as tie
+use Rattle.removing.proofs.lift.Statement.{statement}
+use Rattle.removing.proofs.lift.Tie as tie
 
 header-requires : tie.Need-header-requires
 header-requires c κs = search needs

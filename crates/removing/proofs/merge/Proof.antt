@@ -1,7 +1,7 @@
 -- `merge` goes by what the other child is. Assumes nothing.
 use borrow.Author.Needs.{needs}
-use Rattle.planning.proofs.deleting.merge.Statement.{statement}
-use Rattle.planning.proofs.deleting.merge.Tie as tie
+use Rattle.removing.proofs.merge.Statement.{statement}
+use Rattle.removing.proofs.merge.Tie as tie
 
 reference-requires : tie.Need-reference-requires
 reference-requires c κs = search needs

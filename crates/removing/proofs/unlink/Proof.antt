@@ -1,8 +1,8 @@
 -- `unlink` goes by how many children the leaf's node has. Assumes nothing.
 use borrow.Author.Tests.{lt-ltb, le-ltb}
 use borrow.Author.Needs.{needs}
-use Rattle.planning.proofs.deleting.unlink.Statement.{statement}
-use Rattle.planning.proofs.deleting.unlink.Tie as tie
+use Rattle.removing.proofs.unlink.Statement.{statement}
+use Rattle.removing.proofs.unlink.Tie as tie
 
 children-requires : tie.Need-children-requires
 children-requires c κs = search needs

@@ -8,9 +8,9 @@ use borrow.Author.Needs.{needs}
 use lib.Dec.{eqb}
 use lib.ListN.{getD}
 use Rattle.digits.specs.Loops.{tally}
-use Rattle.planning.proofs.LowestFree.{block-on, block-open}
-use Rattle.planning.proofs.free.block_full.Statement.{statement}
-use Rattle.planning.proofs.free.block_full.Tie as tie
+use Rattle.rules.proofs.LowestFree.{block-on, block-open}
+use Rattle.room.proofs.block_full.Statement.{statement}
+use Rattle.room.proofs.block_full.Tie as tie
 
 abbrev Inv-loop : tie.InvT-loop
 Inv-loop map at full₀ k₀ full k = (k ≤ 64) × (full ≡ eqb (tally k (λ j. eqb (getD map (at + j) 0) 0)) 0)

@@ -1,9 +1,9 @@
 -- `find_room` looks for a leaf, then for a node. It rests on the laws of room. Assumes nothing.
 use native.Mathlib.Omega.{arith}
 use borrow.Author.Needs.{needs}
-use Rattle.planning.proofs.Splits.{leaves-full, nodes-full, room-there}
-use Rattle.planning.proofs.splitting.find_room.Statement.{statement}
-use Rattle.planning.proofs.splitting.find_room.Tie as tie
+use Rattle.rules.proofs.Splits.{leaves-full, nodes-full, room-there}
+use Rattle.room.proofs.find_room.Statement.{statement}
+use Rattle.room.proofs.find_room.Tie as tie
 
 lowest-free-requires : tie.Need-lowest-free-requires
 lowest-free-requires c κs = search needs

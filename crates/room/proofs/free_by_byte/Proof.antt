@@ -4,10 +4,10 @@ use mathlib.Core.Path.{_≡_, refl, _∙_}
 use Prim.Native.Nat.{_-_, _≤_}
 use native.Mathlib.Omega.{arith}
 use borrow.Author.Needs.{needs}
-use Rattle.planning.specs.Puts.{freeFrom}
-use Rattle.planning.proofs.LowestFree.{free-here, free-later, free-end}
-use Rattle.planning.proofs.free.free_by_byte.Statement.{statement}
-use Rattle.planning.proofs.free.free_by_byte.Tie as tie
+use Rattle.rules.specs.Puts.{freeFrom}
+use Rattle.rules.proofs.LowestFree.{free-here, free-later, free-end}
+use Rattle.room.proofs.free_by_byte.Statement.{statement}
+use Rattle.room.proofs.free_by_byte.Tie as tie
 
 abbrev Inv-loop : tie.InvT-loop
 Inv-loop map from to i₀ i = (i ≤ to) × (freeFrom map i to ≡ freeFrom map from to)

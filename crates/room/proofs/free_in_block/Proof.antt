@@ -5,9 +5,9 @@ use mathlib.Core.Logic.{⊎-elim}
 use Prim.Native.Nat.{_-_, _≤_}
 use native.Mathlib.Omega.{arith}
 use borrow.Author.Needs.{needs}
-use Rattle.planning.proofs.LowestFree.{Least, least-lower, least-kept, least-free}
-use Rattle.planning.proofs.free.free_in_block.Statement.{statement}
-use Rattle.planning.proofs.free.free_in_block.Tie as tie
+use Rattle.rules.proofs.LowestFree.{Least, least-lower, least-kept, least-free}
+use Rattle.room.proofs.free_in_block.Statement.{statement}
+use Rattle.room.proofs.free_in_block.Tie as tie
 
 abbrev Inv-loop : tie.InvT-loop
 Inv-loop map at least₀ k₀ least k = (k ≤ 64) × Least map at k least

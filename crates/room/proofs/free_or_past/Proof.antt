@@ -1,8 +1,8 @@
 -- `free_or_past` is its definition. Assumes nothing.
 use borrow.Author.Needs.{needs}
 use borrow.Author.Tests.{eq-eqb, ne-eqb}
-use Rattle.planning.proofs.free.free_or_past.Statement.{statement}
-use Rattle.planning.proofs.free.free_or_past.Tie as tie
+use Rattle.room.proofs.free_or_past.Statement.{statement}
+use Rattle.room.proofs.free_or_past.Tie as tie
 
 cast-result : tie.Need-cast-result
 cast-result c = search needs

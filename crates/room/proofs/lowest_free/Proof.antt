@@ -4,9 +4,9 @@ use mathlib.Core.Path.{_∙_}
 use Prim.Native.Nat.{_+_}
 use native.Mathlib.Omega.{arith}
 use borrow.Author.Needs.{needs}
-use Rattle.planning.proofs.LowestFree.{free-within}
-use Rattle.planning.proofs.free.lowest_free.Statement.{statement}
-use Rattle.planning.proofs.free.lowest_free.Tie as tie
+use Rattle.rules.proofs.LowestFree.{free-within}
+use Rattle.room.proofs.lowest_free.Statement.{statement}
+use Rattle.room.proofs.lowest_free.Tie as tie
 
 past-full-requires : tie.Need-past-full-requires
 past-full-requires c κs = search needs

@@ -5,10 +5,10 @@ use Prim.Native.Nat.{_-_, _≤_}
 use native.Mathlib.Omega.{arith}
 use borrow.Author.Needs.{needs}
 use borrow.Author.Tests.{eqb-true, not-false}
-use Rattle.planning.specs.Puts.{freeFrom}
-use Rattle.planning.proofs.LowestFree.{free-past}
-use Rattle.planning.proofs.free.past_full.Statement.{statement}
-use Rattle.planning.proofs.free.past_full.Tie as tie
+use Rattle.rules.specs.Puts.{freeFrom}
+use Rattle.rules.proofs.LowestFree.{free-past}
+use Rattle.room.proofs.past_full.Statement.{statement}
+use Rattle.room.proofs.past_full.Tie as tie
 
 abbrev Inv-loop : tie.InvT-loop
 Inv-loop map from to i₀ i = (i ≤ to) × (freeFrom map i to ≡ freeFrom map from to)

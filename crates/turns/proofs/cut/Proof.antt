@@ -1,8 +1,8 @@
 -- `cut` makes steps, opens, and prints both. Assumes nothing.
 use borrow.Author.Needs.{needs}
-use Rattle.session.specs.Turns.{printed}
-use Rattle.session.proofs.turns.cut.Statement.{statement}
-use Rattle.session.proofs.turns.cut.Tie as tie
+use Rattle.turns.specs.Turns.{printed}
+use Rattle.turns.proofs.cut.Statement.{statement}
+use Rattle.turns.proofs.cut.Tie as tie
 
 run-requires : tie.Need-run-requires
 run-requires c κs = search needs

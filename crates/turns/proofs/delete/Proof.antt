@@ -1,8 +1,8 @@
 -- `delete` prints what the whole call answers. Assumes nothing.
 use borrow.Author.Needs.{needs}
-use Rattle.session.specs.Turns.{leaves, answersOf, printed}
-use Rattle.session.proofs.turns.delete.Statement.{statement}
-use Rattle.session.proofs.turns.delete.Tie as tie
+use Rattle.turns.specs.Turns.{leaves, answersOf, printed}
+use Rattle.turns.proofs.delete.Statement.{statement}
+use Rattle.turns.proofs.delete.Tie as tie
 
 delete-requires : tie.Need-delete-requires
 delete-requires c κs = search needs

@@ -1,6 +1,6 @@
 use borrow.Author.Needs.{needs}
-use Rattle.session.proofs.turns.found.Statement.{statement}
-use Rattle.session.proofs.turns.found.Tie as tie
+use Rattle.turns.proofs.found.Statement.{statement}
+use Rattle.turns.proofs.found.Tie as tie
 
 enum-known-f : tie.Need-enum-known-f
 enum-known-f c = search needs

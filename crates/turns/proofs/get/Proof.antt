@@ -1,7 +1,7 @@
 use borrow.Author.Needs.{needs}
-use Rattle.session.specs.Turns.{printed}
-use Rattle.session.proofs.turns.get.Statement.{statement}
-use Rattle.session.proofs.turns.get.Tie as tie
+use Rattle.turns.specs.Turns.{printed}
+use Rattle.turns.proofs.get.Statement.{statement}
+use Rattle.turns.proofs.get.Tie as tie
 
 lookup-requires : tie.Need-lookup-requires
 lookup-requires c κs = search needs

@@ -1,9 +1,9 @@
 -- `list` prints what a listing from key 0 hands out. Assumes nothing.
 use mathlib.Core.Path.{sym, _∙_}
 use borrow.Author.Needs.{needs}
-use Rattle.session.proofs.Pages.{listing-printed}
-use Rattle.session.proofs.turns.list.Statement.{statement}
-use Rattle.session.proofs.turns.list.Tie as tie
+use Rattle.turns.proofs.Pages.{listing-printed}
+use Rattle.turns.proofs.list.Statement.{statement}
+use Rattle.turns.proofs.list.Tie as tie
 
 slice-aggregate-list : tie.Need-slice-aggregate-list
 slice-aggregate-list c = search needs

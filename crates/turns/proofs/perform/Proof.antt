@@ -1,8 +1,8 @@
 -- `perform` carries out what the turn is. Assumes nothing.
-use Rattle.session.specs.Turns.{leaves, answersOf, printed}
+use Rattle.turns.specs.Turns.{leaves, answersOf, printed}
 use borrow.Author.Needs.{needs}
-use Rattle.session.proofs.turns.perform.Statement.{statement}
-use Rattle.session.proofs.turns.perform.Tie as tie
+use Rattle.turns.proofs.perform.Statement.{statement}
+use Rattle.turns.proofs.perform.Tie as tie
 
 enum-known-turn : tie.Need-enum-known-turn
 enum-known-turn c = search needs

@@ -1,8 +1,8 @@
 -- `put` prints what the whole call answers. Assumes nothing.
 use borrow.Author.Needs.{needs}
-use Rattle.session.specs.Turns.{leaves, answersOf, printed}
-use Rattle.session.proofs.turns.put.Statement.{statement}
-use Rattle.session.proofs.turns.put.Tie as tie
+use Rattle.turns.specs.Turns.{leaves, answersOf, printed}
+use Rattle.turns.proofs.put.Statement.{statement}
+use Rattle.turns.proofs.put.Tie as tie
 
 put-requires : tie.Need-put-requires
 put-requires c κs = search needs
