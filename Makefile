@@ -1,5 +1,5 @@
-# The ways in. `make run` runs the program `names`, `make test` checks everything.
-.PHONY: run test bench
+# The ways in. `make run` runs the program `names`, `make test` checks everything, `make time` says what that spent.
+.PHONY: run test time bench
 
 # The script that `make run` reads: document 01's example, or FILE=path.
 FILE ?= crates/names/stdin
@@ -9,6 +9,9 @@ run:
 
 test:
 	@tools/test.sh
+
+time:
+	@tools/time.sh
 
 bench:
 	@bench/run.sh

@@ -12,6 +12,7 @@ fail() {
     exit 1
 }
 
+[ "$(uname -m)" = x86_64 ] || fail "the library is for x86-64, and a time taken under an emulator would say nothing."
 for tool in gcc rustc python3; do
     command -v "$tool" >/dev/null || fail "the program $tool is missing; install it and run this again."
 done

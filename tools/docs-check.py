@@ -18,7 +18,7 @@ is the sum of the rows above it), or a text "`path`: N lines", "N files" or "N e
 "proofs" count the lines below the path's folders specs, src and proofs.
 
 In docs/AUDIT.md, the table of files below "What a reader must believe" has to list just the files that the statements of
-crates/demands and crates/wort reach through their `use` lines, and the table below "What a reader need not believe" the others.
+crates/demands and the contracts of the C interface, crates/wort and crates/handing, reach through their `use` lines, and the table below "What a reader need not believe" the others.
 Mistakes.antt in crates/demands promises nothing and is no statement.
 
 The counting rule. A line counts unless it is blank, only a comment (-- or // or #), or a `use`, `ghost use` or `mod` line; files are
@@ -88,7 +88,7 @@ def definitions():
     """The files of definitions that the statements reach, and the others."""
     crates = ROOT / "crates"
     everything = {f for f in crates.glob("*/specs/*.antt") if f.name != "Lib.antt"}
-    reached, ahead = set(), [f for f in everything if f.parent.parent.name in ("demands", "wort") and f.name != "Mistakes.antt"]
+    reached, ahead = set(), [f for f in everything if f.parent.parent.name in ("demands", "wort", "handing") and f.name != "Mistakes.antt"]
     while ahead:
         file = ahead.pop()
         if file not in reached:

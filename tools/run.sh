@@ -15,4 +15,4 @@ if ! rt check names >"$log" 2>&1; then
     echo "The program is not proved, so it is not run." >&2
     exit 1
 fi
-target/bin/names <"$script"
+tools/x86-64.sh target/bin/names <"$script"

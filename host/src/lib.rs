@@ -16,3 +16,6 @@ pub mod watch;
 pub use answers::{Calls, Plan};
 pub use library::Library;
 pub use model::Model;
+
+/// Runs the x86-64 program that its words name, on this processor or under an emulator.
+pub const X86_64: &str = concat!(env!("CARGO_MANIFEST_DIR"), "/../tools/x86-64.sh");

@@ -2,6 +2,7 @@
 
 use std::path::{Path, PathBuf};
 use std::process::{Command, Output};
+use wort_host::X86_64;
 
 /// The library that this crate is linked with.
 const ARCHIVE: &str = env!("WORT_ARCHIVE");
@@ -42,7 +43,7 @@ fn hello_compiles_and_runs() {
         return;
     };
     assert!(compiled.status.success(), "{}", printed(&compiled));
-    let hello = run(&program, &[]).expect("a program that was just made");
+    let hello = run(X86_64, &[&program]).expect("a program that was just made");
     std::fs::remove_file(&program).expect("the program that was just made");
     assert!(hello.status.success(), "{}", printed(&hello));
     let wanted = "\

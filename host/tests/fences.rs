@@ -3,6 +3,7 @@
 use std::env;
 use std::process::Command;
 use wort_host::fenced::{Fenced, Side};
+use wort_host::X86_64;
 
 /// Which touch a child of this test is to make.
 const TOUCH: &str = "WORT_TEST_TOUCH";
@@ -19,8 +20,8 @@ fn a_touch_outside_faults() {
 }
 
 fn child(touch: &str) -> bool {
-    let this = env::current_exe().expect("the test's own program");
-    let run = Command::new(this).args(["--exact", "a_touch_outside_faults"]).env(TOUCH, touch).output();
+    let this = env::args().next().expect("the test's own program");
+    let run = Command::new(X86_64).args([&this, "--exact", "a_touch_outside_faults"]).env(TOUCH, touch).output();
     run.expect("the test's own program runs").status.success()
 }
 

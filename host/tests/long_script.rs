@@ -2,17 +2,18 @@
 //! delivers a byte at a time. The program may take no more memory than it has from the start, and prints what the model says, to the letter.
 
 use std::fmt::Write as _;
+use std::fs;
 use std::io::{Read, Write};
 use std::path::Path;
 use std::process::{ChildStdin, Command, Stdio};
 use std::thread;
 use wort_host::chance::Chance;
-use wort_host::{names, Model};
+use wort_host::{names, Model, X86_64};
 
 const LINES: usize = 200_000;
 
-/// Kilobytes of memory that the program may map: its stack, its code and the C library.
-const MEMORY: usize = 16 * 1024;
+/// Kilobytes of memory that the program may take behind its first answer: a fifth of the script. An emulator's are counted too.
+const MORE: u64 = 1024;
 
 fn script() -> Vec<u8> {
     let mut chance = Chance::new(20);
@@ -34,22 +35,35 @@ fn script() -> Vec<u8> {
     text.into_bytes()
 }
 
+/// Kilobytes of memory that a process has mapped.
+fn mapped(process: u32) -> u64 {
+    let status = fs::read_to_string(format!("/proc/{process}/status")).expect("a process that runs");
+    let size = status.lines().find_map(|line| line.strip_prefix("VmSize:")).expect("its memory");
+    size.trim_end_matches("kB").trim().parse().expect("a number")
+}
+
 /// What the program prints for what `feed` writes to it.
-fn printed(feed: impl FnOnce(ChildStdin) + Send + 'static) -> Vec<u8> {
+fn printed(feed: impl FnOnce(&mut ChildStdin) + Send + 'static) -> Vec<u8> {
     let program = Path::new(env!("CARGO_MANIFEST_DIR")).join("../target/bin/names");
     assert!(program.is_file(), "{} is not there: 'rt check names' builds it", program.display());
-    let mut child = Command::new("sh")
-        .args(["-c", &format!("ulimit -v {MEMORY} && exec \"$0\""), program.to_str().expect("a name in UTF-8")])
+    let mut child = Command::new(X86_64)
+        .arg(program)
         .stdin(Stdio::piped())
         .stdout(Stdio::piped())
         .spawn()
         .expect("the program runs");
-    let input = child.stdin.take().expect("a pipe");
-    let feeder = thread::spawn(move || feed(input));
-    let mut output = Vec::new();
-    child.stdout.take().expect("a pipe").read_to_end(&mut output).expect("its output");
-    feeder.join().expect("all was written");
+    let (process, mut input) = (child.id(), child.stdin.take().expect("a pipe"));
+    let feeder = thread::spawn(move || {
+        feed(&mut input);
+        mapped(process)
+    });
+    let (mut answers, mut output) = (child.stdout.take().expect("a pipe"), vec![0]);
+    answers.read_exact(&mut output).expect("an answer");
+    let from_the_start = mapped(process);
+    answers.read_to_end(&mut output).expect("its output");
+    let at_the_end = feeder.join().expect("all was written");
     assert!(child.wait().expect("its end").success());
+    assert!(at_the_end <= from_the_start + MORE, "{from_the_start} kilobytes at first, then {at_the_end}");
     output
 }
 
@@ -64,8 +78,8 @@ fn a_long_script_is_answered_from_a_pipe_and_byte_by_byte() {
     let script = script();
     let wanted = names::run(&Model, &script);
     let whole = script.clone();
-    agrees(&printed(move |mut pipe| pipe.write_all(&whole).expect("all of it")), &wanted);
-    let slow = move |mut pipe: ChildStdin| {
+    agrees(&printed(move |pipe| pipe.write_all(&whole).expect("all of it")), &wanted);
+    let slow = move |pipe: &mut ChildStdin| {
         for byte in script {
             pipe.write_all(&[byte]).expect("a byte");
         }

@@ -10,7 +10,7 @@ use Rattle.pool.specs.Sizes.{sizeOf, capacityOf}
 use Rattle.pool.specs.Refs.{refOf}
 use Rattle.walk.specs.Walks.{headOf, walkFrom, lowestFrom}
 use Rattle.plan.specs.Plans.{made}
-use Rattle.planning.specs.Puts.{putPlan}
+use Rattle.rules.specs.Puts.{putPlan}
 use Rattle.writing.specs.Calls.{putOf, formatOf}
 use Rattle.demands.specs.Cases.{every, cases}
 

@@ -16,18 +16,21 @@ use Rattle.pool.specs.declared.Size.the-variants.{Holds, Wrong}
 use Rattle.tree.specs.Stores.{Store}
 use Rattle.tree.proofs.Basics.{Same?, same, other, same?}
 use Rattle.tree.proofs.Stores.{Words}
-use Rattle.plan.specs.Plans.{After, after, Decided, storeOf, storesOf, stepOf, finishOf, decided, refused}
+use Rattle.plan.specs.Plans.{After, after, Decided, storeOf, stepOf, decided, refused}
+use Rattle.finishing.specs.Finishes.{storesOf, finishOf}
 use Rattle.plan.specs.declared.Plan.{Plan}
 use Rattle.plan.specs.declared.Effect.{Effect}
 use Rattle.plan.specs.declared.Effect.the-variants.{Nothing, TakesLeaf, TakesBoth, FreesLeaf, FreesBoth}
-use Rattle.reading.specs.Lookups.{Answer}
-use Rattle.reading.specs.Listings.{Shown, listOf}
-use Rattle.reading.proofs.Answers.{Looks, lookup-answers, Lists, list-answers}
-use Rattle.reading.proofs.Answers as reading
-use Rattle.planning.specs.Puts.{putPlan}
-use Rattle.planning.specs.Deletes.{deletePlan}
+use Rattle.finding.specs.Lookups.{Answer}
+use Rattle.listing.specs.Listings.{Shown, listOf}
+use Rattle.finding.proofs.Answers.{Looks, lookup-answers}
+use Rattle.finding.proofs.Answers as finding
+use Rattle.listing.proofs.Answers.{Lists, list-answers}
+use Rattle.listing.proofs.Answers as listing
+use Rattle.rules.specs.Puts.{putPlan}
+use Rattle.rules.specs.Deletes.{deletePlan}
 use Rattle.writing.specs.Calls.{Left, left, done, Formatted, mappedOf, formatOf}
-use Rattle.planning.proofs.Fits.{put-number, put-refusal, put-few, put-inside, delete-number, delete-refusal, delete-few, delete-inside}
+use Rattle.rules.proofs.Fits.{put-number, put-refusal, put-few, put-inside, delete-number, delete-refusal, delete-few, delete-inside}
 use Rattle.writing.proofs.Wholes.{put-whole-number, put-refused, put-lengths, deleteMapped, delete-whole-number, delete-refused, delete-lengths, Formats, format-formats}
 use Rattle.survey.specs.Surveys.{surveyOf}
 use Rattle.opening.specs.Openings.{mendFirst, openIn, openPlan, openOf}
@@ -151,10 +154,10 @@ LookupSays a = OneOf (0 ∷ 1 ∷ 2 ∷ 3 ∷ []) (a .number) × ((a .number ≡
 
 lookup-says : {a : Answer} → Looks a → LookupSays a
 unfolding OneOf
-lookup-says (reading.done h) = (inl refl, (λ z. absurd (z refl)), h)
-lookup-says (reading.absent h) = (inr (inr (inr (inl refl))), (λ z. refl), h)
-lookup-says (reading.damage h) = (inr (inr (inl refl)), (λ z. refl), h)
-lookup-says reading.size = (inr (inl refl), (λ z. refl), omega arith)
+lookup-says (finding.done h) = (inl refl, (λ z. absurd (z refl)), h)
+lookup-says (finding.absent h) = (inr (inr (inr (inl refl))), (λ z. refl), h)
+lookup-says (finding.damage h) = (inr (inr (inl refl)), (λ z. refl), h)
+lookup-says finding.size = (inr (inl refl), (λ z. refl), omega arith)
 
 record ListSays (ks vs : List ℕ) (s : Shown) : Type 0 where
   number : OneOf (0 ∷ 1 ∷ 2 ∷ 6 ∷ []) (s .answer .number)
@@ -170,7 +173,7 @@ neither p q (inr e) = absurd (q e)
 
 list-says : (pool : List ℕ) (from : ℕ) (ks vs : List ℕ) {s : Shown} → Lists pool from ks vs s → ListSays ks vs s
 unfolding OneOf
-list-says pool from ks vs (reading.size c) = record {
+list-says pool from ks vs (listing.size c) = record {
   number = inr (inl refl);
   refusal = λ z. refl;
   kept = λ z. (refl, refl);
@@ -178,7 +181,7 @@ list-says pool from ks vs (reading.size c) = record {
   lengths = (refl, refl);
   beyond = λ z. absurd (omega arith);
 }
-list-says pool from ks vs (reading.buffers c h) = record {
+list-says pool from ks vs (listing.buffers c h) = record {
   number = inr (inr (inr (inl refl)));
   refusal = λ z. refl;
   kept = λ z. (refl, refl);
@@ -186,7 +189,7 @@ list-says pool from ks vs (reading.buffers c h) = record {
   lengths = (refl, refl);
   beyond = λ z. absurd (omega arith);
 }
-list-says pool from ks vs (reading.damage c h) = record {
+list-says pool from ks vs (listing.damage c h) = record {
   number = inr (inr (inl refl));
   refusal = λ z. refl;
   kept = neither (λ e. omega arith) (λ e. omega arith);
@@ -194,7 +197,7 @@ list-says pool from ks vs (reading.damage c h) = record {
   lengths = (length-replicate {A = ℕ} (length ks) 0, length-replicate {A = ℕ} (length vs) 0);
   beyond = λ z. absurd (omega arith);
 }
-list-says pool from ks vs (reading.done v c e p b) = record {
+list-says pool from ks vs (listing.done v c e p b) = record {
   number = inl refl;
   refusal = λ z. absurd (z refl);
   kept = neither (λ e. omega arith) (λ e. omega arith);

@@ -7,12 +7,12 @@ use Prim.Native.Nat.{ℕ}
 use native.Mathlib.Omega.{arith}
 use lib.ListN.{length}
 use Rattle.plan.specs.Plans.{made, Decided}
-use Rattle.reading.specs.Rows.{Word}
-use Rattle.planning.specs.Puts.{putPlan}
-use Rattle.planning.specs.Deletes.{deletePlan}
+use Rattle.listing.specs.Rows.{Word}
+use Rattle.rules.specs.Puts.{putPlan}
+use Rattle.rules.specs.Deletes.{deletePlan}
 use Rattle.writing.specs.Calls.{Left}
-use Rattle.planning.proofs.HeldPuts.{PutIs, full, does}
-use Rattle.planning.proofs.HeldDeletes.{DeleteIs, absent, does as deletes}
+use Rattle.rules.proofs.HeldPuts.{PutIs, full, does}
+use Rattle.rules.proofs.HeldDeletes.{DeleteIs, absent, does as deletes}
 use Rattle.demands.specs.Tables.{Table}
 use Rattle.demands.specs.Demand2.{Reading, Done, Refused, Full, Demand2, Demand2Holds}
 use Rattle.demands.specs.Demand3.{Op, put, delete, planned, whole, effect}

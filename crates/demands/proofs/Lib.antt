@@ -10,3 +10,4 @@ pub mod Demand3
 pub mod Opening
 pub mod Stales
 pub mod Claims
+pub mod Examples

@@ -10,10 +10,10 @@ use Rattle.pool.specs.Sizes.{sizeOf, capacityOf}
 use Rattle.pool.specs.Refs.{refOf}
 use Rattle.walk.specs.Walks.{headOf, walkFrom, lowestFrom}
 use Rattle.plan.specs.Plans.{made}
-use Rattle.reading.specs.Lookups.{lookupOf}
-use Rattle.reading.specs.Listings.{leafOf, visitFrom, judged, listOf}
-use Rattle.planning.specs.Puts.{putPlan}
-use Rattle.planning.specs.Deletes.{deletePlan}
+use Rattle.finding.specs.Lookups.{lookupOf}
+use Rattle.listing.specs.Listings.{leafOf, visitFrom, judged, listOf}
+use Rattle.rules.specs.Puts.{putPlan}
+use Rattle.rules.specs.Deletes.{deletePlan}
 use Rattle.writing.specs.Calls.{putOf, formatOf}
 use Rattle.demands.specs.Cases.{every}
 use Rattle.demands.specs.Mistakes.{mistakes, shows}

@@ -13,10 +13,9 @@ use Rattle.digits.specs.Headers.{depthOf}
 use Rattle.tree.specs.Tree.{Tree, node, dep, find, Stands}
 use Rattle.layout.proofs.Held.{node-slot}
 use Rattle.held.specs.Ways.{dig, mem}
-use Rattle.reading.specs.Lookups.{lookupOf}
-use Rattle.reading.specs.Rows.{Finds}
-use Rattle.reading.proofs.HeldLookup.{lookup-held}
-use Rattle.reading.proofs.HeldListing.{list-held}
+use Rattle.finding.specs.Lookups.{lookupOf, Finds}
+use Rattle.finding.proofs.HeldLookup.{lookup-held}
+use Rattle.listing.proofs.HeldListing.{list-held}
 use Rattle.survey.specs.Soundness.{Sound, Straight}
 use Rattle.survey.proofs.SoundTree.{sound-held}
 use Rattle.survey.proofs.SoundHeld.{held-is-sound, sound-capacity, straight-if, sound-holds}

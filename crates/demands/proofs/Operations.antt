@@ -19,18 +19,19 @@ use Rattle.tree.proofs.Basics.{Same?, same, other, same?}
 use Rattle.tree.proofs.Stores.{Words, words-part, part-all, part-none, part-take}
 use Rattle.layout.specs.Layout.{Held}
 use Rattle.layout.specs.Switches.{Switches}
-use Rattle.plan.specs.Plans.{made, finishOf, Decided, decided}
+use Rattle.plan.specs.Plans.{made, Decided, decided}
+use Rattle.finishing.specs.Finishes.{finishOf}
 use Rattle.plan.specs.Effects.{takes, frees, Inside}
 use Rattle.plan.specs.declared.Effect.{Effect}
 use Rattle.held.specs.Ways.{dig, mem}
 use Rattle.held.specs.Maps.{Marked}
-use Rattle.reading.specs.Rows.{Word}
-use Rattle.planning.specs.Puts.{putPlan}
-use Rattle.planning.specs.Deletes.{deletePlan}
+use Rattle.listing.specs.Rows.{Word}
+use Rattle.rules.specs.Puts.{putPlan}
+use Rattle.rules.specs.Deletes.{deletePlan}
 use Rattle.writing.specs.Calls.{Left, wholeOf, putOf, deleteOf}
-use Rattle.planning.proofs.Fits.{put-inside, put-named, delete-inside, delete-named}
-use Rattle.planning.proofs.HeldPuts.{PutIs, full, does, put-is}
-use Rattle.planning.proofs.HeldDeletes.{DeleteIs, absent, does as deletes, delete-is}
+use Rattle.rules.proofs.Fits.{put-inside, put-named, delete-inside, delete-named}
+use Rattle.rules.proofs.HeldPuts.{PutIs, full, does, put-is}
+use Rattle.rules.proofs.HeldDeletes.{DeleteIs, absent, does as deletes, delete-is}
 use Rattle.demands.specs.Tables.{Table, given, without, Names}
 use Rattle.demands.specs.Demand3.{Op, put, delete, planned, whole, effect, Loosely, put-before, put-whole, delete-before, delete-since, InOrder, first}
 use Rattle.demands.proofs.States.{State, fits, tree-names, stored, finish-marks}

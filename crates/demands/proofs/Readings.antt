@@ -18,10 +18,10 @@ use Rattle.tree.proofs.Listing.{entries-length, rising-decided}
 use Rattle.layout.specs.Layout.{Held}
 use Rattle.held.specs.Ways.{dig, mem}
 use Rattle.held.specs.Maps.{Marked}
-use Rattle.reading.specs.Lookups.{Answer, lookupOf}
-use Rattle.reading.specs.Rows.{Words, Finds}
-use Rattle.reading.proofs.HeldLookup.{lookup-held}
-use Rattle.reading.proofs.HeldListing.{list-held, rows-held, names-held}
+use Rattle.finding.specs.Lookups.{Answer, lookupOf, Finds}
+use Rattle.listing.specs.Rows.{Words}
+use Rattle.finding.proofs.HeldLookup.{lookup-held}
+use Rattle.listing.proofs.HeldListing.{list-held, rows-held, names-held}
 use Rattle.writing.proofs.Wholes.{size-same}
 use Rattle.survey.specs.Soundness.{Sound}
 use Rattle.survey.proofs.HeldReached.{in-use, reached-in-use}

@@ -19,14 +19,16 @@ use Rattle.tree.proofs.Basics.{Same?, same, other, same?}
 use Rattle.tree.proofs.Stores.{Words, words-more}
 use Rattle.layout.specs.Layout.{Held}
 use Rattle.layout.proofs.Changes.{kept}
-use Rattle.plan.specs.Plans.{made, finishOf}
+use Rattle.plan.specs.Plans.{made}
+use Rattle.finishing.specs.Finishes.{finishOf}
 use Rattle.plan.specs.Effects.{takes, frees, has, byteOf, Inside}
 use Rattle.plan.specs.declared.Effect.{Effect}
 use Rattle.plan.specs.declared.Effect.the-variants.{Nothing, TakesLeaf, TakesBoth, FreesLeaf, FreesBoth}
-use Rattle.plan.proofs.Laws.{made-run, length-made, made-off, length-finish, finish-at}
+use Rattle.plan.proofs.Laws.{made-run, length-made, made-off}
+use Rattle.finishing.proofs.Laws.{length-finish, finish-at}
 use Rattle.held.specs.Ways.{dig, mem}
 use Rattle.held.specs.Maps.{Marked}
-use Rattle.reading.specs.Rows.{Word}
+use Rattle.listing.specs.Rows.{Word}
 use Rattle.opening.proofs.HeldOpens.{Pool, capacity-is}
 use Rattle.demands.specs.Tables.{Table, Names}
 

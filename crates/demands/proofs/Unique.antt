@@ -1,6 +1,8 @@
 -- Each public call's promise leaves one outcome: the law of each crate, in one place. Assumes nothing.
-use Rattle.plan.proofs.Laws.{step-unique, finish-unique}
-use Rattle.reading.proofs.Answers.{lookup-unique, list-unique}
+use Rattle.plan.proofs.Laws.{step-unique}
+use Rattle.finishing.proofs.Laws.{finish-unique}
+use Rattle.finding.proofs.Answers.{lookup-unique}
+use Rattle.listing.proofs.Answers.{list-unique}
 use Rattle.writing.proofs.Wholes.{put-unique, plan-put-unique, delete-unique, plan-delete-unique, format-unique}
 use Rattle.opening.proofs.Answers.{plan-unique, open-unique}
 use Rattle.demands.specs.Unique.{Unique}

@@ -10,14 +10,15 @@ use Prim.Native.Nat.{ℕ, _≤_, _<_}
 use lib.ListN.{length, replicate}
 use Rattle.pool.specs.Places.{wordAt}
 use Rattle.tree.specs.Stores.{Store}
-use Rattle.plan.specs.Plans.{Decided, stepOf, finishOf}
+use Rattle.plan.specs.Plans.{Decided, stepOf}
+use Rattle.finishing.specs.Finishes.{finishOf}
 use Rattle.plan.specs.declared.Plan.{Plan}
 use Rattle.plan.specs.declared.Effect.{Effect}
 use Rattle.plan.specs.declared.Effect.the-variants.{Nothing}
-use Rattle.reading.specs.Lookups.{lookupOf}
-use Rattle.reading.specs.Listings.{listOf}
-use Rattle.planning.specs.Puts.{putPlan}
-use Rattle.planning.specs.Deletes.{deletePlan}
+use Rattle.finding.specs.Lookups.{lookupOf}
+use Rattle.listing.specs.Listings.{listOf}
+use Rattle.rules.specs.Puts.{putPlan}
+use Rattle.rules.specs.Deletes.{deletePlan}
 use Rattle.writing.specs.Calls.{putOf, deleteOf, formatOf}
 use Rattle.opening.specs.Openings.{openPlan, openOf}
 

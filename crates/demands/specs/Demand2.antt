@@ -8,11 +8,11 @@ use mathlib.Core.List.{List}
 use Prim.Native.Nat.{ℕ}
 use lib.ListN.{length}
 use Rattle.plan.specs.Plans.{made}
-use Rattle.planning.specs.Puts.{putPlan}
-use Rattle.planning.specs.Deletes.{deletePlan}
+use Rattle.rules.specs.Puts.{putPlan}
+use Rattle.rules.specs.Deletes.{deletePlan}
 use Rattle.writing.specs.Calls.{Left, putOf, deleteOf}
 use Rattle.survey.specs.Soundness.{Sound}
-use Rattle.reading.specs.Rows.{Word, Words}
+use Rattle.listing.specs.Rows.{Word, Words}
 use Rattle.demands.specs.Tables.{Table, given, without, Names, Reads, Exact}
 
 -- a sound pool with an exact map, and the table of names that it reads as

@@ -14,12 +14,12 @@ use Rattle.digits.specs.Choice.{pick}
 use Rattle.tree.specs.Stores.{Store, Part}
 use Rattle.pool.specs.Sizes.{bytesOf}
 use Rattle.plan.specs.Plans.{made, Decided}
-use Rattle.planning.specs.Puts.{putPlan}
-use Rattle.planning.specs.Deletes.{deletePlan}
+use Rattle.rules.specs.Puts.{putPlan}
+use Rattle.rules.specs.Deletes.{deletePlan}
 use Rattle.writing.specs.Calls.{Left, putOf, deleteOf, formatOf}
 use Rattle.survey.specs.Soundness.{Stale}
 use Rattle.opening.specs.Openings.{openOf, openSteps}
-use Rattle.reading.specs.Rows.{Word}
+use Rattle.listing.specs.Rows.{Word}
 use Rattle.demands.specs.Tables.{Table, blank, given, without, Reads}
 use Rattle.demands.specs.Demand2.{Reading}
 

@@ -10,10 +10,10 @@ use lib.Dec.{eqb}
 use lib.ListN.{length, take, drop, replicate}
 use Rattle.tree.specs.Stores.{Store}
 use Rattle.plan.specs.Plans.{made}
-use Rattle.reading.specs.Lookups.{Answer, answer, lookupOf}
-use Rattle.reading.specs.Listings.{listOf}
-use Rattle.planning.specs.Puts.{putPlan}
-use Rattle.planning.specs.Deletes.{deletePlan}
+use Rattle.finding.specs.Lookups.{Answer, answer, lookupOf}
+use Rattle.listing.specs.Listings.{listOf}
+use Rattle.rules.specs.Puts.{putPlan}
+use Rattle.rules.specs.Deletes.{deletePlan}
 use Rattle.writing.specs.Calls.{Left}
 use Rattle.demands.specs.Tables.{Table, blank, given, without}
 use Rattle.demands.specs.Cases.{both, fresh, putting}

@@ -10,9 +10,9 @@ use Rattle.digits.specs.Choice.{pick}
 use Rattle.tree.specs.Listing.{Entry, Rising, look}
 use Rattle.pool.specs.Sizes.{bytesOf}
 use Rattle.pool.specs.Places.{wordAt}
-use Rattle.reading.specs.Lookups.{lookupOf}
-use Rattle.reading.specs.Listings.{listOf}
-use Rattle.reading.specs.Rows.{Finds, upFrom, shownRows, Word}
+use Rattle.finding.specs.Lookups.{lookupOf, Finds}
+use Rattle.listing.specs.Listings.{listOf}
+use Rattle.listing.specs.Rows.{upFrom, shownRows, Word}
 use Rattle.survey.specs.Soundness.{InUse}
 
 -- "a plain table from name number to file number": the file number of each name that it holds

@@ -3,15 +3,16 @@
 use mathlib.Core.Path.{_≡_}
 use mathlib.Core.List.{List}
 use Prim.Native.Nat.{ℕ}
-use Rattle.plan.specs.Plans.{after, plannedOf, stepOf, finishOf}
+use Rattle.plan.specs.Plans.{after, plannedOf, stepOf}
+use Rattle.finishing.specs.Finishes.{finishOf}
 use Rattle.plan.specs.declared.Plan.{Plan}
 use Rattle.plan.specs.declared.Planned.{Planned}
-use Rattle.reading.specs.Lookups.{told, lookupOf}
-use Rattle.reading.specs.Listings.{shown, listOf}
-use Rattle.reading.specs.declared.finding.Found.{Found}
-use Rattle.reading.specs.declared.listing.Listed.{Listed}
-use Rattle.planning.specs.Puts.{putPlan}
-use Rattle.planning.specs.Deletes.{deletePlan}
+use Rattle.finding.specs.Lookups.{told, lookupOf}
+use Rattle.listing.specs.Listings.{shown, listOf}
+use Rattle.finding.specs.declared.Found.{Found}
+use Rattle.listing.specs.declared.Listed.{Listed}
+use Rattle.rules.specs.Puts.{putPlan}
+use Rattle.rules.specs.Deletes.{deletePlan}
 use Rattle.writing.specs.Calls.{left, formatted, putOf, deleteOf, formatOf}
 use Rattle.writing.specs.declared.making.Done.{Done}
 use Rattle.opening.specs.Openings.{openPlan, openOf, left as leaves}

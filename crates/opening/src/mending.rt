@@ -215,9 +215,9 @@ fn open_sized(pool: &mut [u64], n: usize, map: &mut [u8]) -> Opened
     requires { ⌜ Sized (now pool) n × (length (now map) ≡ bytesOf n) ⌝ }
     ensures { λ r. ⌜ left r (now (pool .exit)) (now (map .exit)) ≡ leftJudged (now (pool .entry)) (now (map .entry)) n (surveyOf (now (pool .entry)) n) ⌝ }
 {
-    plan::clear(map);
+    finishing::clear(map);
     if !survey::survey(pool, n, map) {
-        plan::clear(map);
+        finishing::clear(map);
         return refused(2);
     }
     restore(pool, n, map)

@@ -5,8 +5,8 @@ use mathlib.Core.List.{List, [], _∷_}
 use Prim.Native.Nat.{ℕ}
 use Rattle.tree.specs.Stores.{Store}
 use Rattle.plan.specs.declared.Plan.{Plan}
-use Rattle.plan.specs.declared.Effect.the-variants.{TakesLeaf, TakesBoth, FreesBoth}
-use Rattle.plan.specs.Plans.{planOf, after, stepOf, finishOf, ran, stepsFrom, runOf}
+use Rattle.plan.specs.declared.Effect.the-variants.{TakesLeaf}
+use Rattle.plan.specs.Plans.{planOf, after, stepOf, ran, stepsFrom, runOf}
 
 -- two stores, word 3 := 40 and then word 1 := 2, that take byte 0 of the map
 stores : List Store
@@ -59,13 +59,3 @@ cut-run = refl
 whole-run : runOf 21 two pool ≡ ran 2 (9 ∷ 2 ∷ 9 ∷ 40 ∷ [])
 unfolding two stores pool stepOf stepsFrom
 whole-run = refl
-
--- taken bytes become 1, freed bytes 0; where one is outside, neither changes
-taken-both : finishOf (TakesBoth 0 2) (0 ∷ 0 ∷ 0 ∷ []) ≡ after 0 (1 ∷ 0 ∷ 1 ∷ [])
-taken-both = refl
-
-freed-both : finishOf (FreesBoth 0 2) (1 ∷ 1 ∷ 7 ∷ []) ≡ after 0 (0 ∷ 1 ∷ 0 ∷ [])
-freed-both = refl
-
-byte-outside : finishOf (TakesBoth 0 3) (0 ∷ 0 ∷ 0 ∷ []) ≡ after 5 (0 ∷ 0 ∷ 0 ∷ [])
-byte-outside = refl

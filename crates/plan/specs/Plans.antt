@@ -1,4 +1,4 @@
--- Plans: their stores in order, one step, the finish, and a run of steps.
+-- Plans: their stores in order, one step, and a run of steps.
 -- Assumes nothing.
 use mathlib.Core.Bool.{true, false}
 use mathlib.Core.List.{List, [], _∷_, _++_, map}
@@ -10,7 +10,7 @@ use Rattle.tree.specs.Stores.{Store}
 use Rattle.plan.specs.declared.Plan.{Plan}
 use Rattle.plan.specs.declared.Planned.{Planned}
 use Rattle.plan.specs.declared.Effect.{Effect}
-use Rattle.plan.specs.declared.Effect.the-variants.{Nothing, TakesLeaf, TakesBoth, FreesLeaf, FreesBoth}
+use Rattle.plan.specs.declared.Effect.the-variants.{Nothing}
 
 -- the words after all the stores, in their order
 unfoldable pub made : List Store → List ℕ → List ℕ
@@ -57,24 +57,12 @@ after k l = record { number = k; left = l }
 abbrev pub storeOf : ℕ → ℕ → List ℕ → After
 storeOf i v l = pick (ltb i (length l)) (after 0 (set l i v)) (after 5 l)
 
--- the same at two places, both judged before either is stored to
-abbrev pub storesOf : ℕ → ℕ → ℕ → List ℕ → After
-storesOf i j v l = pick (ltb i (length l)) (pick (ltb j (length l)) (after 0 (set (set l i v) j v)) (after 5 l)) (after 5 l)
-
 -- "One step makes one store." 5: "count over 21, step number not below the count, or its word outside the pool"
 unfoldable pub stepOf : Plan → ℕ → List ℕ → After
 stepOf p at pool =
     pick (ltb 21 (p .count)) (after 5 pool)
     (pick (leb (p .count) at) (after 5 pool)
     (storeOf (getD (p .words) at 0) (getD (p .values) at 0) pool))
-
--- "Finishing changes only the named map bytes." 5: "a named map byte outside the map"
-abbrev pub finishOf : Effect → List ℕ → After
-finishOf Nothing bytes = after 0 bytes
-finishOf (TakesLeaf a) bytes = storeOf a 1 bytes
-finishOf (TakesBoth a b) bytes = storesOf a b 1 bytes
-finishOf (FreesLeaf a) bytes = storeOf a 0 bytes
-finishOf (FreesBoth a b) bytes = storesOf a b 0 bytes
 
 -- steps i, i + 1, .. of a plan, at most n, until one is refused: the number of the next step, and the words then
 pub record Ran : Type 0 where

@@ -1,10 +1,1 @@
-pub mod LowestFree
 pub mod Arrays
-pub mod Counts
-pub mod Splits
-pub mod Puts
-pub mod Deletes
-pub mod Fits
-pub mod HeldRoom
-pub mod HeldPuts
-pub mod HeldDeletes

@@ -7,22 +7,16 @@ ghost use Rattle.digits.specs.Headers.{headerOf};
 ghost use Rattle.tree.specs.Stores.{tab};
 ghost use Rattle.pool.specs.Sizes.{bytesOf};
 ghost use Rattle.plan.specs.Plans.{plannedOf};
-ghost use Rattle.planning.specs.Puts.{growOf, splitChild, roomOf, Splits, splitIn, splitOf};
-use crate::free::lowest_free;
+ghost use Rattle.rules.specs.Puts.{growOf, splitChild, Splits, splitIn, splitOf};
 use digits::Header;
 use plan::Effect;
 use plan::Plan;
 use plan::Planned;
-
-// What is split: the word of the reference, the walk depth there, what it refers to, a key below that, and the first digit in which the new key
-// differs from it.
-pub struct Cleft {
-    pub at: usize,
-    pub depth: usize,
-    pub old: u64,
-    pub near: u64,
-    pub diff: usize,
-}
+use room::find_room;
+use room::lowest_free;
+use rules::Cleft;
+use rules::Room;
+use rules::Target;
 
 // A new leaf at the empty reference `at`: leaf key, leaf value, that reference.
 pub fn grow(map: &[u8], n: usize, key: u64, value: u64, at: usize) -> Planned
@@ -69,33 +63,6 @@ fn node_values(s: Cleft, leaf: usize, key: u64) -> [u64; 17]
         c += 1;
     }
     values
-}
-
-// What is split off: a leaf, or node j, which branches at b.
-pub enum Target {
-    ALeaf,
-    ANode(usize, usize),
-}
-
-// The free leaf and the free node that a split takes, by their bytes in the map.
-pub enum Room {
-    Slots(usize, usize),
-    Full,
-}
-
-pub fn find_room(map: &[u8], n: usize) -> Room
-    requires { ⌜ (n ≤ 1024) × (length (now map) ≡ bytesOf n) × (1 ≤ n) ⌝ }
-    ensures { λ r. ⌜ r ≡ roomOf (now (map .entry)) n ⌝ }
-{
-    let leaf = lowest_free(map, 0, n);
-    if n <= leaf {
-        return Room::Full;
-    }
-    let byte = lowest_free(map, n, map.len());
-    if map.len() <= byte {
-        return Room::Full;
-    }
-    Room::Slots(leaf, byte)
 }
 
 // The stores of a split, in order, into a free leaf and a free node, by their bytes in the map: 20 for a leaf target, 21 for a node.

@@ -1,4 +1,3 @@
-pub mod Pages
 pub mod Runs
 pub mod Texts
 pub mod Prints

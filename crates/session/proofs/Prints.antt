@@ -12,7 +12,7 @@ use lib.Seq.{length-take-le, take-append-seam}
 use Rattle.digits.specs.Choice.{pick}
 use Rattle.answers.specs.Answers.{textOf, Page, page, written}
 use Rattle.answers.specs.declared.Answer.{Answer}
-use Rattle.session.specs.Turns.{printed, Acted}
+use Rattle.turns.specs.Turns.{printed, Acted}
 use Rattle.session.specs.Bytes.{Session, taken, afterByte, saidAt, lastTurn, Stream, onByte, onEnd, roomy, Going, going, runOf, most}
 use Rattle.session.specs.Outputs.{afterBytes, saidBy, saidLast, textsOf}
 use Rattle.session.proofs.Texts.{texts-append, turn-short}

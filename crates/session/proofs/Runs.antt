@@ -13,7 +13,7 @@ use lib.ListN.{length, getD, drop, drop-of-length-le}
 use lib.Seq.{drop-cons}
 use Rattle.script.specs.Input.{Taking, taking, endOf}
 use Rattle.script.specs.declared.input.Taken.{Taken}
-use Rattle.session.specs.Turns.{leaves, answersOf, printed, Acted, turned}
+use Rattle.turns.specs.Turns.{leaves, answersOf, printed, Acted, turned}
 use Rattle.session.specs.Bytes.{taken, Stream, onByte, onEnd, roomy, Going, going, runOf, most}
 
 -- a byte that was taken and whose turn was carried out

@@ -5,8 +5,8 @@ use mathlib.Core.List.{List, [], _∷_, _++_, append-assoc, append-nil}
 use Prim.Native.Nat.{ℕ, zero, suc, _+_, _*_, _/_, _%_, _≤_, min}
 use native.Mathlib.Omega.{arith}
 use lib.ListN.{length, getD, replicate, length-append, length-replicate}
-use Rattle.reading.proofs.Answers.{Lists, size, buffers, damage, done, list-answers}
-use Rattle.reading.specs.Listings.{Shown, listOf}
+use Rattle.listing.proofs.Answers.{Lists, size, buffers, damage, done, list-answers}
+use Rattle.listing.specs.Listings.{Shown, listOf}
 use Rattle.script.specs.declared.turns.Turn.{Turn}
 use Rattle.script.specs.declared.turns.Turn.the-variants.{Put, Delete, Get, Listing, CutPut, CutDelete, Nothing, Wrong}
 use Rattle.answers.specs.Numbers.{glyphOf, lastDigits, placesIn, decimalOf, hexOf}
@@ -14,7 +14,7 @@ use Rattle.answers.specs.Answers.{fieldsOf, lineEnd, textOf}
 use Rattle.answers.specs.declared.Answer.{Answer}
 use Rattle.answers.specs.declared.Answer.the-variants as print
 use Rattle.answers.proofs.Texts.{places-le}
-use Rattle.session.specs.Turns.{Memory, entries, answersOf}
+use Rattle.turns.specs.Turns.{Memory, entries, answersOf}
 use Rattle.session.specs.Bytes.{most}
 use Rattle.session.specs.Outputs.{textsOf}
 

@@ -11,7 +11,7 @@ use Rattle.script.specs.declared.input.Reader.{Reader}
 use Rattle.script.specs.declared.turns.Turn.{Turn}
 use Rattle.answers.specs.Answers.{Page}
 use Rattle.answers.specs.declared.Answer.{Answer}
-use Rattle.session.specs.Turns.{Memory, memory, leaves, answersOf, printed, Acted, turned}
+use Rattle.turns.specs.Turns.{Memory, memory, leaves, answersOf, printed, Acted, turned}
 
 -- all that a session holds: the reader, the line that is being gathered, and what the turns act on
 pub record Session : Type 0 where

@@ -1,3 +1,2 @@
-pub mod Turns
 pub mod Bytes
 pub mod Outputs

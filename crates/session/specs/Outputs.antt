@@ -7,7 +7,7 @@ use Rattle.writing.specs.Calls.{Formatted, formatOf}
 use Rattle.script.specs.Input.{begun}
 use Rattle.answers.specs.Answers.{textOf}
 use Rattle.answers.specs.declared.Answer.{Answer}
-use Rattle.session.specs.Turns.{memory, answersOf}
+use Rattle.turns.specs.Turns.{memory, answersOf}
 use Rattle.session.specs.Bytes.{Session, afterByte, saidAt, lastTurn}
 
 -- the session after some bytes of the input, and what they had it print

@@ -1,9 +1,8 @@
 // The input of a session, byte by byte, and the page that its answers go onto.
 ghost use mathlib.Core.Path.{_≡_};
 ghost use Rattle.answers.specs.Answers.{page};
-ghost use Rattle.session.specs.Turns.{acted};
+ghost use Rattle.turns.specs.Turns.{acted};
 ghost use Rattle.session.specs.Bytes.{stream, onByte, onEnd, roomy, going, runOf};
-use crate::turns;
 use script::Reader;
 
 // Bytes that a turn prints, at most: 256 entries of 40 bytes, and their count, which is 23.

@@ -1,7 +1,6 @@
-// A session of `names`: how it starts, what each turn does to the pool and the map, and what it prints.
+// A session of `names`: how it starts, and a run of the bytes of its input.
 mod bytes;
 mod starting;
-mod turns;
 
 pub use bytes::LINE;
 pub use bytes::Progress;
@@ -11,4 +10,3 @@ pub use starting::BYTES;
 pub use starting::WORDS;
 pub use starting::blank_line;
 pub use starting::start;
-pub use turns::perform;

@@ -4,12 +4,12 @@ use mathlib.Core.Path.{_≡_, refl, sym, _∙_}
 use mathlib.Core.Bool.{Bool, true, false}
 use mathlib.Core.List.{List, [], _∷_}
 use mathlib.Core.Logic.{⊎-elim}
-use Prim.Native.Nat.{ℕ, _+_, _<_}
+use Prim.Native.Nat.{ℕ, _+_, _-_, _≤_, _<_}
 use native.Mathlib.Omega.{arith}
-use borrow.Author.Tests.{lt-ltb, ltb-false}
+use borrow.Author.Tests.{lt-ltb, ltb-false, le-leb}
 use types.Run.{OneOf}
 use denote.Enum.Declared.{tagOf}
-use lib.Dec.{ltb}
+use lib.Dec.{eqb, ltb}
 use Rattle.digits.specs.Choice.{pick}
 use Rattle.digits.specs.Headers.{depthOf, lengthOf}
 use Rattle.pool.specs.Places.{headerAt}
@@ -53,6 +53,16 @@ NoNode Empty = Unit {0}
 NoNode (Leaf i) = Unit {0}
 NoNode (Node j) = ⊥
 NoNode Bad = Unit {0}
+
+-- a reference up to 1024 is to no node
+pub low-no-node : (n r : ℕ) → r ≤ 1024 → NoNode (refOf n r)
+unfolding refOf
+low-no-node n r h = rw (le-leb r 1024 h) (go (eqb r 0) (ltb (r - 1) n))
+  where
+    go : (t u : Bool) → NoNode (pick t Empty (pick u (Leaf (r - 1)) Bad))
+    go true u = tt
+    go false true = tt
+    go false false = tt
 
 -- the reference r, met at walk depth w, is to node j, and its header is refused
 pub record Refused (pool : List ℕ) (n w r j : ℕ) : Type 0 where

@@ -3,10 +3,8 @@
 use mathlib.Core.List.{List}
 use Prim.Native.Nat.{ℕ}
 use Rattle.digits.specs.Choice.{pick}
-use Rattle.plan.specs.Plans.{Decided, plannedOf}
-use Rattle.reading.specs.Listings.{Shown}
+use Rattle.listing.specs.Listings.{Shown}
 use Rattle.opening.specs.Openings.{openOf}
-use Rattle.wort.specs.Plans.{wordsOf}
 use Rattle.writing.specs.Calls.{Left}
 
 -- a listing: the number, the count, 1 where there is a further entry and else 0, and the buffers
@@ -49,14 +47,3 @@ opening k c h p m = record { number = k; keys = c; headers = h; pool = p; map = 
 
 abbrev pub openingOf : List ℕ → List ℕ → Opening
 openingOf p m = opening (openOf p m .answer .number) (openOf p m .answer .keys) (openOf p m .answer .headers) (openOf p m .pool) (openOf p m .map)
-
--- a planning call: the number, and the plan's words
-pub record PlannedWords : Type 0 where
-  pub number : ℕ
-  pub plan : List ℕ
-
-abbrev pub planned : ℕ → List ℕ → PlannedWords
-planned k l = record { number = k; plan = l }
-
-abbrev pub plannedIn : Decided → PlannedWords
-plannedIn d = planned (d .number) (wordsOf (plannedOf d .plan))

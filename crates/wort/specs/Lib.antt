@@ -1,2 +1,1 @@
-pub mod Plans
 pub mod Answers

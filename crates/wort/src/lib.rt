@@ -1,22 +1,18 @@
 // The C interface, as include/wort.h declares it: each function hands on to the library.
 ghost use mathlib.Core.Path.{_≡_};
-ghost use mathlib.Core.List.{[], _∷_, _++_};
-ghost use lib.ListN.{length, take};
-ghost use lib.Seq.{sets};
 ghost use Rattle.digits.specs.Choice.{pick};
 ghost use Rattle.plan.specs.Plans.{after, stepOf};
-ghost use Rattle.reading.specs.Lookups.{answer, lookupOf};
-ghost use Rattle.reading.specs.Listings.{listOf};
-ghost use Rattle.planning.specs.Puts.{putPlan};
-ghost use Rattle.planning.specs.Deletes.{deletePlan};
+ghost use Rattle.finding.specs.Lookups.{answer, lookupOf};
+ghost use Rattle.listing.specs.Listings.{listOf};
+ghost use Rattle.rules.specs.Puts.{putPlan};
+ghost use Rattle.rules.specs.Deletes.{deletePlan};
 ghost use Rattle.writing.specs.Calls.{putOf, deleteOf, formatted, formatOf};
 ghost use Rattle.opening.specs.Openings.{openPlan};
-ghost use Rattle.wort.specs.Plans.{effectWords, wordsOf, effectOf, planIn, finishIn};
-ghost use Rattle.wort.specs.Answers.{told, toldOf, stored, storedOf, opening, openingOf, planned, plannedIn};
-use plan::Effect;
-use plan::Plan;
-use plan::Planned;
-use reading::Found;
+ghost use Rattle.handing.specs.Plans.{planIn, finishIn, planned, plannedIn};
+ghost use Rattle.wort.specs.Answers.{told, toldOf, stored, storedOf, opening, openingOf};
+use finding::Found;
+use handing::hand_out;
+use handing::taken_in;
 
 #[no_mangle]
 pub extern "C" fn wort_format(pool: &mut [u64], map: &mut [u8], n: u64) -> u64
@@ -44,7 +40,7 @@ pub extern "C" fn wort_open(
 pub extern "C" fn wort_lookup(pool: &[u64], key: u64, value: &mut u64, nodes: &mut u64) -> u64
     ensures { λ r. ⌜ answer r (now (value .exit)) (now (nodes .exit)) ≡ lookupOf (now (pool .entry)) key ⌝ }
 {
-    match reading::lookup(pool, key) {
+    match finding::lookup(pool, key) {
         Found::Hit(v, m) => found(value, nodes, v, m, 0),
         Found::Absent(m) => found(value, nodes, 0, m, 3),
         Found::Met(m) => found(value, nodes, 0, m, 2),
@@ -72,7 +68,7 @@ pub extern "C" fn wort_list(
 ) -> u64
     ensures { λ r. ⌜ told r (now (count .exit)) (now (more .exit)) (now (keys .exit)) (now (values .exit)) ≡ toldOf (listOf (now (pool .entry)) from (now (keys .entry)) (now (values .entry))) ⌝ }
 {
-    let l = reading::list(pool, from, keys, values);
+    let l = listing::list(pool, from, keys, values);
     *count = l.count as u64;
     *more = flag(l.more);
     l.number
@@ -107,96 +103,6 @@ pub extern "C" fn wort_delete(pool: &mut [u64], map: &mut [u8], key: u64, stores
     let d = writing::delete(pool, map, key);
     *stores = d.stores as u64;
     d.number
-}
-
-// Writes an effect's three words.
-fn lay_words(plan: &mut [u64; 46], kind: u64, leaf: usize, node: usize)
-    ensures { λ _. ⌜ now (plan .exit) ≡ sets (now (plan .entry)) 1 (kind ∷ leaf ∷ node ∷ []) ⌝ }
-{
-    plan[1] = kind;
-    plan[2] = leaf as u64;
-    plan[3] = node as u64;
-}
-
-// Writes an effect.
-fn lay_effect(plan: &mut [u64; 46], effect: Effect)
-    ensures { λ _. ⌜ now (plan .exit) ≡ sets (now (plan .entry)) 1 (effectWords effect) ⌝ }
-{
-    match effect {
-        Effect::Nothing => lay_words(plan, 0, 0, 0),
-        Effect::TakesLeaf(leaf) => lay_words(plan, 1, leaf, 0),
-        Effect::TakesBoth(leaf, node) => lay_words(plan, 2, leaf, node),
-        Effect::FreesLeaf(leaf) => lay_words(plan, 3, leaf, 0),
-        Effect::FreesBoth(leaf, node) => lay_words(plan, 4, leaf, node),
-    }
-}
-
-// Writes the word numbers and the values, after the first four words.
-fn lay_stores(plan: &mut [u64], words: &[usize], values: &[u64])
-    requires { ⌜ (length (now plan) ≡ 46) × (length (now words) ≡ 21) × (length (now values) ≡ 21) ⌝ }
-    ensures { λ _. ⌜ now (plan .exit) ≡ take 4 (now (plan .entry)) ++ now (words .entry) ++ now (values .entry) ⌝ }
-{
-    let mut i: usize = 0;
-    while i < Plan::MOST {
-        plan[4 + i] = words[i] as u64;
-        plan[25 + i] = values[i];
-        i += 1;
-    }
-}
-
-// Hands out what a planning call answers.
-fn hand_out(plan: &mut [u64; 46], p: Planned) -> u64
-    ensures { λ r. ⌜ planned r (now (plan .exit)) ≡ planned (p .number) (wordsOf (p .plan)) ⌝ }
-{
-    let number = p.number;
-    let decided = p.plan;
-    let words = decided.words;
-    let values = decided.values;
-    let effect = decided.effect;
-    plan[0] = decided.count as u64;
-    lay_effect(plan, effect);
-    lay_stores(plan, &words, &values);
-    number
-}
-
-// The effect that three words say.
-fn effect_in(kind: u64, leaf: usize, node: usize) -> Effect
-    ensures { λ r. ⌜ r ≡ effectOf kind leaf node ⌝ }
-{
-    if kind == 1 {
-        return Effect::TakesLeaf(leaf);
-    }
-    if kind == 2 {
-        return Effect::TakesBoth(leaf, node);
-    }
-    if kind == 3 {
-        return Effect::FreesLeaf(leaf);
-    }
-    if kind == 4 {
-        return Effect::FreesBoth(leaf, node);
-    }
-    Effect::Nothing
-}
-
-// The plan that a run of 46 words says.
-fn taken_in(plan: &[u64]) -> Plan
-    requires { ⌜ length (now plan) ≡ 46 ⌝ }
-    ensures { λ r. ⌜ r ≡ planIn (now (plan .entry)) ⌝ }
-{
-    let mut words = [0usize; 21];
-    let mut values = [0u64; 21];
-    let mut i: usize = 0;
-    while i < Plan::MOST {
-        words[i] = plan[4 + i] as usize;
-        values[i] = plan[25 + i];
-        i += 1;
-    }
-    Plan {
-        words,
-        values,
-        count: plan[0] as usize,
-        effect: effect_in(plan[1], plan[2] as usize, plan[3] as usize),
-    }
 }
 
 #[no_mangle]
@@ -243,5 +149,5 @@ pub extern "C" fn wort_finish(map: &mut [u8], plan: &[u64; 46]) -> u64
     if 4 < plan[1] {
         return 5;
     }
-    plan::finish(map, taken_in(plan))
+    finishing::finish(map, taken_in(plan))
 }

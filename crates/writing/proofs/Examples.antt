@@ -14,8 +14,8 @@ use Rattle.walk.specs.Walks.{headOf, walkFrom, lowestFrom}
 use Rattle.plan.specs.Plans.{made, decided, refused}
 use Rattle.plan.specs.declared.Effect.the-variants.{TakesBoth, FreesLeaf}
 use Rattle.layout.specs.Operations.{store}
-use Rattle.planning.specs.Puts.{putPlan}
-use Rattle.planning.specs.Deletes.{deletePlan}
+use Rattle.rules.specs.Puts.{putPlan}
+use Rattle.rules.specs.Deletes.{deletePlan}
 use Rattle.writing.specs.Calls.{done, left, putOf, deleteOf, formatted, formatOf}
 
 -- ---- sizes

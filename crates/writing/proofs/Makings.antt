@@ -15,19 +15,20 @@ use Rattle.tree.proofs.Stores.{length-tab}
 use Rattle.pool.specs.Places.{leafWord, nodeWord, leafRef, nodeRef}
 use Rattle.digits.specs.Headers.{headerOf}
 use Rattle.layout.specs.Operations.{store, putStores, splitting}
-use Rattle.plan.specs.Plans.{decided, refused, made, After, after, storeOf, finishOf}
+use Rattle.plan.specs.Plans.{decided, refused, made, After, after, storeOf}
+use Rattle.finishing.specs.Finishes.{finishOf}
 use Rattle.plan.specs.declared.Effect.{Effect}
 use Rattle.plan.specs.declared.Effect.the-variants.{TakesLeaf, TakesBoth}
 use Rattle.plan.proofs.Laws.{made-append}
-use Rattle.planning.specs.declared.splitting.Cleft.{Cleft}
-use Rattle.planning.specs.declared.splitting.Target.{Target}
-use Rattle.planning.specs.declared.splitting.Target.the-variants.{ALeaf, ANode}
-use Rattle.planning.specs.declared.splitting.Room.{Room}
-use Rattle.planning.specs.declared.splitting.Room.the-variants.{Slots, Full}
-use Rattle.planning.specs.Puts.{freeLeaf, growOf, splitChild, targetHeader, cleaving, roomOf, splitOf}
+use Rattle.rules.specs.declared.Cleft.{Cleft}
+use Rattle.rules.specs.declared.Target.{Target}
+use Rattle.rules.specs.declared.Target.the-variants.{ALeaf, ANode}
+use Rattle.rules.specs.declared.Room.{Room}
+use Rattle.rules.specs.declared.Room.the-variants.{Slots, Full}
+use Rattle.rules.specs.Puts.{freeLeaf, growOf, splitChild, targetHeader, cleaving, roomOf, splitOf}
 use Rattle.writing.specs.Calls.{done, left, wholeOf}
 use Rattle.planning.proofs.Arrays.{tab-last}
-use Rattle.planning.proofs.Counts.{leaf-split-count, node-split-count}
+use Rattle.rules.proofs.Counts.{leaf-split-count, node-split-count}
 
 -- a store that is made, inside or not
 pub stored : (l : List ℕ) (i v : ℕ) {k : ℕ} {l′ : List ℕ} → after k l′ ≡ storeOf i v l → l′ ≡ set l i v

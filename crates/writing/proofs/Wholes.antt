@@ -18,10 +18,11 @@ use Rattle.pool.specs.declared.Size.the-variants.{Holds, Wrong}
 use Rattle.pool.proofs.Sizes.{size-fits}
 use Rattle.plan.specs.Plans.{Decided, plannedOf}
 use Rattle.plan.specs.declared.Planned.{Planned}
-use Rattle.plan.proofs.Laws.{length-made, length-finish}
+use Rattle.plan.proofs.Laws.{length-made}
+use Rattle.finishing.proofs.Laws.{length-finish}
 use Rattle.writing.specs.declared.making.Done.{Done}
-use Rattle.planning.specs.Puts.{putPlan}
-use Rattle.planning.specs.Deletes.{deletePlan}
+use Rattle.rules.specs.Puts.{putPlan}
+use Rattle.rules.specs.Deletes.{deletePlan}
 use Rattle.writing.specs.Calls.{Left, done, left, wholeOf, putOf, mappedOf, deleteOf, Formatted, formatted, formatIn, formatOf}
 
 -- ---- what a whole call leaves

@@ -8,10 +8,11 @@ use Rattle.digits.specs.Choice.{pick}
 use Rattle.pool.specs.Sizes.{sizeOf, capacityOf, bytesOf}
 use Rattle.pool.specs.declared.Size.{Size}
 use Rattle.pool.specs.declared.Size.the-variants.{Holds, Wrong}
-use Rattle.plan.specs.Plans.{made, finishOf, Decided, refused}
+use Rattle.plan.specs.Plans.{made, Decided, refused}
+use Rattle.finishing.specs.Finishes.{finishOf}
 use Rattle.writing.specs.declared.making.Done.{Done}
-use Rattle.planning.specs.Puts.{putPlan}
-use Rattle.planning.specs.Deletes.{deletePlan}
+use Rattle.rules.specs.Puts.{putPlan}
+use Rattle.rules.specs.Deletes.{deletePlan}
 
 -- the number given back, the stores made, and the pool and the map after the call
 pub record Left : Type 0 where

@@ -4,9 +4,9 @@ ghost use Rattle.writing.specs.Calls.{left, putOf, deleteOf, formatted, 
 use crate::making::Done;
 use crate::making::put_at;
 use crate::making::remove;
-use planning::find_place;
-use planning::find_removal;
+use placing::find_place;
 use pool::Size;
+use removing::find_removal;
 
 // Gives a key its value.
 pub fn put(pool: &mut [u64], map: &mut [u8], key: u64, value: u64) -> Done
@@ -48,6 +48,6 @@ pub fn format(pool: &mut [u64], map: &mut [u8], n: u64) -> u64
     }
     pool[1] = 0;
     pool[0] = n;
-    plan::clear(map);
+    finishing::clear(map);
     0
 }

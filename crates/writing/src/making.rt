@@ -8,20 +8,20 @@ ghost use Rattle.tree.specs.Stores.{block, tab};
 ghost use Rattle.pool.specs.Sizes.{bytesOf, Sized};
 ghost use Rattle.pool.specs.Places.{leafWord};
 ghost use Rattle.plan.specs.Plans.{made};
-ghost use Rattle.planning.specs.Puts.{splitChild, targetHeader, Splits, growOf, splitOf};
-ghost use Rattle.planning.specs.Leads.{planAt, Able};
-ghost use Rattle.planning.specs.Removals.{decidedBy};
+ghost use Rattle.rules.specs.Puts.{splitChild, targetHeader, Splits, growOf, splitOf};
+ghost use Rattle.placing.specs.Leads.{planAt, Able};
+ghost use Rattle.removing.specs.Removals.{decidedBy};
 ghost use Rattle.writing.specs.Calls.{done, left, wholeOf};
 use digits::Header;
+use placing::Place;
 use plan::Effect;
-use planning::Cleft;
-use planning::Place;
-use planning::Removal;
-use planning::Room;
-use planning::Target;
-use planning::find_room;
-use planning::lowest_free;
 use planning::split_child;
+use removing::Removal;
+use room::find_room;
+use room::lowest_free;
+use rules::Cleft;
+use rules::Room;
+use rules::Target;
 
 // What a whole call answers: document 01's number, and the stores made.
 pub struct Done {
@@ -59,7 +59,7 @@ fn make_grow(pool: &mut [u64], map: &mut [u8], n: usize, key: u64, value: u64, a
     }
     make_leaf(pool, leaf, key, value); // the leaf, whole
     plan::store(pool, at, pool::leaf_ref(leaf)); // and then the reference to it
-    plan::take_effect(map, Effect::TakesLeaf(leaf));
+    finishing::take_effect(map, Effect::TakesLeaf(leaf));
     Done {
         number: 0,
         stores: 3,
@@ -113,7 +113,7 @@ fn make_split(
     make_node(pool, pool::node_word(n, node), s, leaf, key);
     let headers = make_target(pool, n, s, target);
     plan::store(pool, s.at, pool::node_ref(node)); // the new key counts from here
-    plan::take_effect(map, Effect::TakesBoth(leaf, byte));
+    finishing::take_effect(map, Effect::TakesBoth(leaf, byte));
     Done {
         number: 0,
         stores: 20 + headers,
@@ -154,7 +154,7 @@ pub fn remove(pool: &mut [u64], map: &mut [u8], removal: Removal) -> Done
         Removal::Refused(number) => Done::refused(number),
         Removal::Emptied(at, leaf) => {
             plan::store(pool, at, 0);
-            plan::take_effect(map, Effect::FreesLeaf(leaf));
+            finishing::take_effect(map, Effect::FreesLeaf(leaf));
             Done {
                 number: 0,
                 stores: 1,
@@ -162,7 +162,7 @@ pub fn remove(pool: &mut [u64], map: &mut [u8], removal: Removal) -> Done
         }
         Removal::Bypassed(at, child, leaf, node) => {
             plan::store(pool, at, child);
-            plan::take_effect(map, Effect::FreesBoth(leaf, node));
+            finishing::take_effect(map, Effect::FreesBoth(leaf, node));
             Done {
                 number: 0,
                 stores: 1,
@@ -171,7 +171,7 @@ pub fn remove(pool: &mut [u64], map: &mut [u8], removal: Removal) -> Done
         Removal::Lifted(at, child, word, header, leaf, node) => {
             plan::store(pool, at, child);
             plan::store(pool, word, header);
-            plan::take_effect(map, Effect::FreesBoth(leaf, node));
+            finishing::take_effect(map, Effect::FreesBoth(leaf, node));
             Done {
                 number: 0,
                 stores: 2,

@@ -1,7 +1,7 @@
 -- `plan_delete` judges the size, and lays out what the delete comes to. Assumes nothing.
 use mathlib.Core.Path.{sym, ap, _∙_}
 use Rattle.plan.specs.Plans.{plannedOf}
-use Rattle.planning.proofs.Deletes.{delete-unsized}
+use Rattle.removing.proofs.Deletes.{delete-unsized}
 use borrow.Author.Needs.{needs}
 use Rattle.planning.proofs.deleting.plan_delete.Statement.{statement}
 use Rattle.planning.proofs.deleting.plan_delete.Tie as tie

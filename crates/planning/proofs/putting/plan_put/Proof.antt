@@ -3,7 +3,7 @@ use mathlib.Core.Path.{ap, _∙_}
 use native.Mathlib.Omega.{arith}
 use borrow.Author.Needs.{needs}
 use Rattle.plan.specs.Plans.{plannedOf}
-use Rattle.planning.proofs.Puts.{put-unsized, put-unmapped, put-placed}
+use Rattle.placing.proofs.Puts.{put-unsized, put-unmapped, put-placed}
 use Rattle.planning.proofs.putting.plan_put.Statement.{statement}
 use Rattle.planning.proofs.putting.plan_put.Tie as tie
 

@@ -7,7 +7,7 @@ use native.Mathlib.Omega.{arith}
 use borrow.Author.Needs.{needs}
 use Rattle.digits.specs.Headers.{headerOf}
 use Rattle.tree.specs.Stores.{tab}
-use Rattle.planning.specs.Puts.{splitChild}
+use Rattle.rules.specs.Puts.{splitChild}
 use Rattle.planning.proofs.Arrays.{filledTo, filled-on}
 use Rattle.planning.proofs.splitting.node_values.Statement.{statement}
 use Rattle.planning.proofs.splitting.node_values.Tie as tie

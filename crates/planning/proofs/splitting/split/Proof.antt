@@ -1,7 +1,7 @@
 -- `split` finds room, and lays out the stores there. It rests on the laws of room. Assumes nothing.
 use mathlib.Core.Path.{sym, _∙_}
 use borrow.Author.Needs.{needs}
-use Rattle.planning.proofs.Splits.{slots-inside}
+use Rattle.rules.proofs.Splits.{slots-inside}
 use Rattle.planning.proofs.splitting.split.Statement.{statement}
 use Rattle.planning.proofs.splitting.split.Tie as tie
 

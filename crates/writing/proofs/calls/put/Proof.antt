@@ -1,6 +1,6 @@
 -- `put` judges the sizes, finds the place and makes the put there. Assumes nothing.
 use native.Mathlib.Omega.{arith}
-use Rattle.planning.proofs.Puts.{put-unsized, put-unmapped, put-placed}
+use Rattle.placing.proofs.Puts.{put-unsized, put-unmapped, put-placed}
 use Rattle.writing.proofs.Makings.{whole-none}
 use Rattle.writing.proofs.Wholes.{put-made}
 use borrow.Author.Needs.{needs}

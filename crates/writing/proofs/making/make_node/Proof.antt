@@ -7,7 +7,7 @@ use lib.ListN.{length}
 use Rattle.digits.specs.Headers.{headerOf}
 use Rattle.tree.specs.Stores.{block, tab}
 use Rattle.plan.specs.Plans.{made}
-use Rattle.planning.specs.Puts.{splitChild}
+use Rattle.rules.specs.Puts.{splitChild}
 use Rattle.writing.proofs.Makings.{children-on, node-made}
 use Rattle.writing.proofs.making.make_node.Statement.{statement}
 use Rattle.writing.proofs.making.make_node.Tie as tie

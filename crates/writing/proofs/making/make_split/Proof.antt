@@ -3,7 +3,7 @@ use mathlib.Core.Path.{sym, _∙_}
 use Prim.Native.Nat.{_≤_, _<_}
 use native.Mathlib.Omega.{arith}
 use Rattle.pool.specs.Sizes.{bytesOf}
-use Rattle.planning.proofs.Splits.{slots-inside}
+use Rattle.rules.proofs.Splits.{slots-inside}
 use Rattle.writing.proofs.Makings.{split-full, split-made, target-few}
 use borrow.Author.Needs.{needs}
 use Rattle.writing.proofs.making.make_split.Statement.{statement}

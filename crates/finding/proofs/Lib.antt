@@ -1,0 +1,3 @@
+pub mod Lookups
+pub mod Answers
+pub mod HeldLookup

@@ -1,0 +1,53 @@
+-- A plan as a run of 46 words, as include/wort.h has it.
+-- Assumes nothing.
+use mathlib.Core.List.{List, [], _∷_, _++_}
+use Prim.Native.Nat.{ℕ}
+use lib.Dec.{eqb, ltb}
+use lib.ListN.{getD, take, drop}
+use Rattle.digits.specs.Choice.{pick}
+use Rattle.plan.specs.Plans.{After, after, Decided, plannedOf}
+use Rattle.finishing.specs.Finishes.{finishOf}
+use Rattle.plan.specs.declared.Plan.{Plan}
+use Rattle.plan.specs.declared.Effect.{Effect}
+use Rattle.plan.specs.declared.Effect.the-variants.{Nothing, TakesLeaf, TakesBoth, FreesLeaf, FreesBoth}
+
+-- "effect (0 nothing, 1 takes a leaf, 2 takes a leaf and a node, 3 frees a leaf, 4 frees a leaf and a node), the leaf's map byte, the node's
+-- map byte"
+abbrev pub effectWords : Effect → List ℕ
+effectWords Nothing = 0 ∷ 0 ∷ 0 ∷ []
+effectWords (TakesLeaf a) = 1 ∷ a ∷ 0 ∷ []
+effectWords (TakesBoth a b) = 2 ∷ a ∷ b ∷ []
+effectWords (FreesLeaf a) = 3 ∷ a ∷ 0 ∷ []
+effectWords (FreesBoth a b) = 4 ∷ a ∷ b ∷ []
+
+-- "A plan is a run of 46 words: count, effect .., then 21 word numbers, then 21 values"
+abbrev pub wordsOf : Plan → List ℕ
+wordsOf p = (p .count ∷ effectWords (p .effect)) ++ p .words ++ p .values
+
+-- the plan that a run of 46 words says; an effect that has no number is nothing
+abbrev pub effectOf : ℕ → ℕ → ℕ → Effect
+effectOf e a b =
+    pick (eqb e 1) (TakesLeaf a) (pick (eqb e 2) (TakesBoth a b) (pick (eqb e 3) (FreesLeaf a) (pick (eqb e 4) (FreesBoth a b) Nothing)))
+
+abbrev pub planIn : List ℕ → Plan
+planIn l = record {
+  words = take 21 (drop 4 l);
+  values = take 21 (drop 25 l);
+  count = getD l 0 0;
+  effect = effectOf (getD l 1 0) (getD l 2 0) (getD l 3 0);
+}
+
+-- finishing by such a run: an effect above 4 names no byte, and is refused with 5
+abbrev pub finishIn : List ℕ → List ℕ → After
+finishIn l bytes = pick (ltb 4 (getD l 1 0)) (after 5 bytes) (finishOf (planIn l .effect) bytes)
+
+-- a planning call: the number, and the plan's words
+pub record PlannedWords : Type 0 where
+  pub number : ℕ
+  pub plan : List ℕ
+
+abbrev pub planned : ℕ → List ℕ → PlannedWords
+planned k l = record { number = k; plan = l }
+
+abbrev pub plannedIn : Decided → PlannedWords
+plannedIn d = planned (d .number) (wordsOf (plannedOf d .plan))

@@ -1,4 +1,0 @@
-pub mod Puts
-pub mod Leads
-pub mod Deletes
-pub mod Removals

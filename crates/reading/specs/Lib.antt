@@ -1,3 +1,0 @@
-pub mod Lookups
-pub mod Listings
-pub mod Rows

@@ -1,0 +1,33 @@
+#!/bin/sh
+# Runs a command with a gcc, a cargo and a python3 that are for x86-64, as libwort.a is. On another processor that takes packages of
+# Debian 12, which are installed if they are missing; what was built then runs by x86-64.sh.
+# Usage: for-x86-64.sh COMMAND [WORD...]
+set -eu
+[ "$(uname -m)" != x86_64 ] || exec "$@"
+root=$(cd "$(dirname "$0")/.." && pwd)
+made=$root/build/x86-64
+python=libpython3.11
+packages="gcc-x86-64-linux-gnu libc6-dev-amd64-cross qemu-user rustc-web libstd-rust-web-dev:amd64 $python:amd64"
+
+fail() {
+    echo "The library is for x86-64, and its tests need these packages of Debian 12 on this processor: $packages. $1" >&2
+    exit 1
+}
+
+mkdir -p "$made"
+# shellcheck disable=SC2086 # the packages are many words
+if ! dpkg -s $packages >/dev/null 2>&1; then
+    [ "$(id -u)" = 0 ] || fail "Install them (dpkg --add-architecture amd64; apt-get update; apt-get install), or run this as root."
+    { dpkg --add-architecture amd64 && apt-get update && apt-get install -y --no-remove --no-install-recommends $packages; } >"$made/apt.log" 2>&1 ||
+        fail "apt-get could not install them: see $made/apt.log."
+fi
+ln -sf "$(command -v x86_64-linux-gnu-gcc)" "$made/gcc"
+echo 'int Py_BytesMain(int, char **); int main(int count, char **words) { return Py_BytesMain(count, words); }' |
+    "$made/gcc" -x c - -x none "/usr/lib/x86_64-linux-gnu/$python.so.1.0" -o "$made/python"
+printf '#!/bin/sh\nexec "%s/tools/x86-64.sh" "%s/python" "$@"\n' "$root" "$made" >"$made/python3"
+chmod +x "$made/python3"
+
+export PATH="$made:$PATH" RUSTC=/usr/bin/rustc CARGO_BUILD_TARGET=x86_64-unknown-linux-gnu
+export CARGO_TARGET_X86_64_UNKNOWN_LINUX_GNU_LINKER=x86_64-linux-gnu-gcc
+export CARGO_TARGET_X86_64_UNKNOWN_LINUX_GNU_RUNNER="$root/tools/x86-64.sh"
+exec "$@"
