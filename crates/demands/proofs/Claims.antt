@@ -3,8 +3,11 @@
 use Rattle.demands.specs.Claims.{Claims}
 use Rattle.demands.proofs.Demand1.{demand1}
 use Rattle.demands.proofs.Demand2.{demand2-holds}
-use Rattle.demands.proofs.Demand3.{demand3-in-order, demand3-loosely}
+use Rattle.demands.proofs.Demand3.{demand3-in-order, demand3-loosely, begins}
 use Rattle.demands.proofs.Stales.{one-stale-in-order, one-stale-loosely}
+use Rattle.demands.proofs.Question.{listed-as-opened}
+use Rattle.demands.proofs.ByPlan.{by-plan}
+use Rattle.demands.proofs.Words.{returns}
 use Rattle.demands.proofs.Opening.{opens}
 use Rattle.demands.proofs.Unique.{unique}
 use Rattle.demands.proofs.Cases.{cases-hold}
@@ -17,6 +20,10 @@ claims = record {
   one-stale = one-stale-in-order;
   demand3-more = demand3-loosely;
   one-stale-more = one-stale-loosely;
+  question = listed-as-opened;
+  begins = begins;
+  by-plan = by-plan;
+  from-c = returns;
   opening = opens;
   one-outcome = unique;
   examples = cases-hold;

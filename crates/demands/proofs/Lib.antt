@@ -1,4 +1,6 @@
 pub mod States
+pub mod ByPlan
+pub mod Words
 pub mod Operations
 pub mod Readings
 pub mod Cases
@@ -7,6 +9,7 @@ pub mod Unique
 pub mod Demand1
 pub mod Demand2
 pub mod Demand3
+pub mod Question
 pub mod Opening
 pub mod Stales
 pub mod Claims

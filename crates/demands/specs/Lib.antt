@@ -1,9 +1,12 @@
 pub mod Tables
 pub mod Demand1
 pub mod Demand2
+pub mod ByPlan
+pub mod Words
 pub mod Demand3
+pub mod Question
+pub mod Opening
+pub mod Unique
 pub mod Cases
 pub mod Mistakes
-pub mod Unique
-pub mod Opening
 pub mod Claims
