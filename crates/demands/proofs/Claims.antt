@@ -11,6 +11,7 @@ use Rattle.demands.proofs.Words.{returns}
 use Rattle.demands.proofs.Opening.{opens}
 use Rattle.demands.proofs.Unique.{unique}
 use Rattle.demands.proofs.Cases.{cases-hold}
+use Rattle.demands.proofs.StoreLists.{store-lists-hold}
 
 pub claims : Claims
 claims = record {
@@ -27,4 +28,5 @@ claims = record {
   opening = opens;
   one-outcome = unique;
   examples = cases-hold;
+  store-lists = store-lists-hold;
 }

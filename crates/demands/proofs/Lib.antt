@@ -4,6 +4,7 @@ pub mod Words
 pub mod Operations
 pub mod Readings
 pub mod Cases
+pub mod StoreLists
 pub mod Mistakes
 pub mod Unique
 pub mod Demand1

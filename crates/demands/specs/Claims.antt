@@ -11,6 +11,7 @@ use Rattle.demands.specs.Words.{Returns}
 use Rattle.demands.specs.Opening.{Opens}
 use Rattle.demands.specs.Unique.{Unique}
 use Rattle.demands.specs.Cases.{every, cases}
+use Rattle.demands.specs.StoreLists.{storeLists}
 
 pub record Claims : Type 0 where
   pub demand1 : Demand1
@@ -28,3 +29,4 @@ pub record Claims : Type 0 where
   pub opening : Opens
   pub one-outcome : Unique
   pub examples : every cases ≡ true
+  pub store-lists : every storeLists ≡ true

@@ -8,5 +8,6 @@ pub mod Question
 pub mod Opening
 pub mod Unique
 pub mod Cases
+pub mod StoreLists
 pub mod Mistakes
 pub mod Claims
