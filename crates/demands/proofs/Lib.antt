@@ -5,6 +5,9 @@ pub mod Cases
 pub mod Mistakes
 pub mod Unique
 pub mod Demand1
+pub mod Ways
+pub mod Exactly
+pub mod LookupCauses
 pub mod Demand2
 pub mod Demand3
 pub mod Opening
