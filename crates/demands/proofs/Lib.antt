@@ -8,6 +8,7 @@ pub mod Demand1
 pub mod Ways
 pub mod Exactly
 pub mod LookupCauses
+pub mod DeleteCauses
 pub mod Demand2
 pub mod Demand3
 pub mod Opening
