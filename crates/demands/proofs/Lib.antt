@@ -9,6 +9,7 @@ pub mod Ways
 pub mod Exactly
 pub mod LookupCauses
 pub mod DeleteCauses
+pub mod PutCauses
 pub mod Demand2
 pub mod Demand3
 pub mod Opening
