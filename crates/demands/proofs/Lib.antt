@@ -10,6 +10,7 @@ pub mod Exactly
 pub mod LookupCauses
 pub mod DeleteCauses
 pub mod PutCauses
+pub mod ListCauses
 pub mod Demand2
 pub mod Demand3
 pub mod Opening
