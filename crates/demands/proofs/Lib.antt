@@ -11,6 +11,7 @@ pub mod LookupCauses
 pub mod DeleteCauses
 pub mod PutCauses
 pub mod ListCauses
+pub mod Causes
 pub mod Demand2
 pub mod Demand3
 pub mod Opening
