@@ -8,6 +8,13 @@ pub mod StoreLists
 pub mod Mistakes
 pub mod Unique
 pub mod Demand1
+pub mod Ways
+pub mod Exactly
+pub mod LookupCauses
+pub mod DeleteCauses
+pub mod PutCauses
+pub mod ListCauses
+pub mod Causes
 pub mod Demand2
 pub mod Demand3
 pub mod Question

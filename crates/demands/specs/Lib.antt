@@ -1,5 +1,7 @@
 pub mod Tables
 pub mod Demand1
+pub mod Ways
+pub mod Causes
 pub mod Demand2
 pub mod ByPlan
 pub mod Words
