@@ -21,6 +21,7 @@ has() {
 statement=crates/demands/specs/Claims.antt
 law=crates/demands/proofs/Claims.antt
 has $statement 'use Rattle.demands.specs.Demand1.{Demand1}'
+has $statement 'use Rattle.demands.specs.Causes.{Causes}'
 has $statement 'use Rattle.demands.specs.Demand2.{Demand2Holds}'
 has $statement 'use Rattle.demands.specs.Demand3.{InOrder, Loosely, Demand3, Begins, AtMostOneStale}'
 has $statement 'use Rattle.demands.specs.Question.{ListedAsOpened}'
@@ -32,6 +33,7 @@ has $statement 'use Rattle.demands.specs.Cases.{every, cases}'
 has $statement 'use Rattle.demands.specs.StoreLists.{storeLists}'
 has $statement 'pub record Claims : Type 0 where'
 has $statement '  pub demand1 : Demand1'
+has $statement '  pub causes : Causes'
 has $statement '  pub demand2 : Demand2Holds'
 has $statement '  pub demand3 : Demand3 InOrder'
 has $statement '  pub one-stale : AtMostOneStale InOrder'

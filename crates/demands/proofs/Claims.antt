@@ -2,6 +2,7 @@
 -- its text (tools/claims.sh). Assumes nothing.
 use Rattle.demands.specs.Claims.{Claims}
 use Rattle.demands.proofs.Demand1.{demand1}
+use Rattle.demands.proofs.Causes.{causes}
 use Rattle.demands.proofs.Demand2.{demand2-holds}
 use Rattle.demands.proofs.Demand3.{demand3-in-order, demand3-loosely, begins}
 use Rattle.demands.proofs.Stales.{one-stale-in-order, one-stale-loosely}
@@ -16,6 +17,7 @@ use Rattle.demands.proofs.StoreLists.{store-lists-hold}
 pub claims : Claims
 claims = record {
   demand1 = demand1;
+  causes = causes;
   demand2 = demand2-holds;
   demand3 = demand3-in-order;
   one-stale = one-stale-in-order;

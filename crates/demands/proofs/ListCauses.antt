@@ -17,8 +17,7 @@ use Rattle.pool.specs.Places.{wordAt, keyAt, valueAt, childAt, childWord}
 use Rattle.pool.specs.declared.Size.the-variants.{Holds}
 use Rattle.tree.proofs.Basics.{Same?, same, other, same?}
 use Rattle.walk.specs.Walks.{childrenOf}
-use Rattle.listing.specs.Listings.{Visit, state, visit, spoilt, leafOf, visitFrom, listed, judged, listIn}
-use Rattle.listing.specs.declared.Listed.{Listed}
+use Rattle.listing.specs.Listings.{Visit, state, visit, spoilt, leafOf, visitFrom, Told, listed, judged, listIn}
 use Rattle.listing.proofs.Visits.{visit-over, visit-on, visit-node}
 use Rattle.survey.specs.Soundness.{branch}
 use Rattle.demands.specs.Ways.{inTurn, Meets, fitting, GoesOn, Visited, Listing}
@@ -173,7 +172,7 @@ module _ (pool : List ℕ) (n from : ℕ) where
       ended ls x rest u M e h =
           visit-meets M v (start .phase≡) ∙ meets-append (map some ls) (x ∷ rest) v ∙ ap (meets rest) e ∙ meets-over rest h
 
-      visited-is : (a : Listed) → Visited pool n from room a → judged whole .answer ≡ a
+      visited-is : (a : Told) → Visited pool n from room a → judged whole .answer ≡ a
       unfolding meet leafOf
       visited-is a (Visited.all ls M g) = rw (visit-meets M v (start .phase≡)) (going-answer (gone ls g))
       visited-is a (Visited.further ls l rest M g q f k) =
@@ -234,20 +233,20 @@ module _ (pool : List ℕ) (n from : ℕ) where
             go true e q = (leb-true from key e, omega arith)
             go false e q = absurd (omega arith)
 
-    visited-some : (a : Listed) × Visited pool n from room a
+    visited-some : (a : Told) × Visited pool n from room a
     visited-some = let (items, M) = meets-some 1 0 (omega arith) in go (ends-some items 0 0 (omega arith) (omega arith)) M
       where
         on : (ls : List ℕ) → 0 + length ls ≤ n → 0 + fitting pool from ls ≤ room → GoesOn pool n from room ls
         on ls h r = record { few = omega arith; fit = omega arith }
 
-        go : {items : List (Option ℕ)} → Ends 0 0 items → Meets pool n 1 0 items → (a : Listed) × Visited pool n from room a
+        go : {items : List (Option ℕ)} → Ends 0 0 items → Meets pool n 1 0 items → (a : Told) × Visited pool n from room a
         go (in-all ls h r) M = (_, Visited.all ls M (on ls h r))
         go (in-further ls l rest h r k) M = (_, Visited.further ls l rest M (on ls (omega arith) (omega arith)) (omega arith) (omega arith) k)
         go (in-damage ls rest h r) M = (_, Visited.damage ls rest M (on ls h r))
         go (in-more ls l rest h r) M = (_, Visited.more ls l rest M (on ls (omega arith) r) (omega arith))
 
 module _ (pool : List ℕ) (n from : ℕ) (ks vs : List ℕ) where
-  pub list-is : (a : Listed) → Listing pool n from (length ks) (length vs) a → listIn pool from ks vs (Holds n) .answer ≡ a
+  pub list-is : (a : Told) → Listing pool n from (length ks) (length vs) a → listIn pool from ks vs (Holds n) .answer ≡ a
   list-is a (Listing.buffers (inl z)) = rw (eq-eqb (length ks) 0 z)
   list-is a (Listing.buffers (inr h)) = go (same? (length ks) 0)
     where
@@ -258,10 +257,10 @@ module _ (pool : List ℕ) (n from : ℕ) (ks vs : List ℕ) where
       rw (ne-eqb (length ks) 0 h, eq-eqb (length ks) (length vs) e)
       (visited-is pool n from (length ks) (visit ks vs (state 0 0 0)) (record { phase≡ = refl; met≡ = refl; count≡ = refl; room≡ = refl }) a D)
 
-  pub list-some : (a : Listed) × Listing pool n from (length ks) (length vs) a
+  pub list-some : (a : Told) × Listing pool n from (length ks) (length vs) a
   list-some = go (same? (length ks) 0) (same? (length ks) (length vs))
     where
-      go : Same? (length ks) 0 → Same? (length ks) (length vs) → (a : Listed) × Listing pool n from (length ks) (length vs) a
+      go : Same? (length ks) 0 → Same? (length ks) (length vs) → (a : Told) × Listing pool n from (length ks) (length vs) a
       go (same z _) s = (_, Listing.buffers (inl z))
       go (other z _) (other h _) = (_, Listing.buffers (inr h))
       go (other z _) (same e _) = let (a, D) = visited-some pool n from (length ks) in (a, Listing.visited z e D)

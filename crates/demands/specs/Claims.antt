@@ -3,6 +3,7 @@
 use mathlib.Core.Path.{_≡_}
 use mathlib.Core.Bool.{true}
 use Rattle.demands.specs.Demand1.{Demand1}
+use Rattle.demands.specs.Causes.{Causes}
 use Rattle.demands.specs.Demand2.{Demand2Holds}
 use Rattle.demands.specs.Demand3.{InOrder, Loosely, Demand3, Begins, AtMostOneStale}
 use Rattle.demands.specs.Question.{ListedAsOpened}
@@ -15,6 +16,8 @@ use Rattle.demands.specs.StoreLists.{storeLists}
 
 pub record Claims : Type 0 where
   pub demand1 : Demand1
+  -- "Wrong sizes, damage, an absent name, no room: each has its number": which number, exactly when
+  pub causes : Causes
   pub demand2 : Demand2Holds
   pub demand3 : Demand3 InOrder
   pub one-stale : AtMostOneStale InOrder

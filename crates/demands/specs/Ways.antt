@@ -17,8 +17,7 @@ use Rattle.pool.specs.Places.{wordAt, keyAt, valueAt, headerAt, childAt, childW
 use Rattle.pool.specs.declared.Ref.the-variants.{Empty, Leaf, Node, Bad}
 use Rattle.walk.specs.Walks.{childrenOf}
 use Rattle.finding.specs.Lookups.{Answer, answer}
-use Rattle.listing.specs.Listings.{listed}
-use Rattle.listing.specs.declared.Listed.{Listed}
+use Rattle.listing.specs.Listings.{Told, listed}
 use Rattle.survey.specs.Soundness.{at, depth, branch}
 
 -- f 0 to f (c - 1), one after the other
@@ -162,7 +161,7 @@ module _ (pool : List ℕ) (n : ℕ) where
       pub few : length ls ≤ n
       pub fit : fitting pool from ls ≤ room
 
-    pub data Visited : Listed → Type 0 where
+    pub data Visited : Told → Type 0 where
       -- "It hands out leaves with key at or above a given key"
       all : (ls : List ℕ) → Meets 1 0 (map some ls) → GoesOn ls → Visited (listed 0 (fitting pool from ls) false)
       -- "until the two lent buffers are full, and says whether a further one was found; there it stops"
@@ -174,6 +173,6 @@ module _ (pool : List ℕ) (n : ℕ) where
           → Visited (listed 2 0 false)
 
   -- "6 | listing buffers of length 0 or of unequal length". "Order: 1, 6, 2"
-  pub data Listing (from keys values : ℕ) : Listed → Type 0 where
+  pub data Listing (from keys values : ℕ) : Told → Type 0 where
     buffers : (keys ≡ 0) ⊎ (keys ≢ values) → Listing from keys values (listed 6 0 false)
-    visited : {a : Listed} → keys ≢ 0 → keys ≡ values → Visited from keys a → Listing from keys values a
+    visited : {a : Told} → keys ≢ 0 → keys ≡ values → Visited from keys a → Listing from keys values a
