@@ -27,8 +27,9 @@ part "crates listed"
 tools/listed.sh
 part "documents"
 tools/docs-check.py
-part "claims"
+part "claims, and mistakes that they refuse"
 tools/claims.sh
+tools/claims-test.sh
 part "proofs, must-fail edits and programs"
 status=0
 rt ci 2>&1 | tee build/ci.log || status=$?

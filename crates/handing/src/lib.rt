@@ -3,7 +3,7 @@ ghost use mathlib.Core.Path.{_≡_};
 ghost use mathlib.Core.List.{[], _∷_, _++_};
 ghost use lib.ListN.{length, take};
 ghost use lib.Seq.{sets};
-ghost use Rattle.handing.specs.Plans.{effectWords, wordsOf, effectOf, planIn, planned};
+ghost use Rattle.handing.specs.Plans.{effectWords, effectOf, planIn, planned, plannedIn};
 use plan::Effect;
 use plan::Plan;
 use plan::Planned;
@@ -45,7 +45,7 @@ fn lay_stores(plan: &mut [u64], words: &[usize], values: &[u64])
 
 // Hands out what a planning call answers.
 pub fn hand_out(plan: &mut [u64; 46], p: Planned) -> u64
-    ensures { λ r. ⌜ planned r (now (plan .exit)) ≡ planned (p .number) (wordsOf (p .plan)) ⌝ }
+    ensures { λ r. ⌜ planned r (now (plan .exit)) ≡ plannedIn p ⌝ }
 {
     let number = p.number;
     let decided = p.plan;

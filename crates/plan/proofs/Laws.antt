@@ -1,4 +1,4 @@
--- Laws of plans: what their stores leave, what a step and a run do, and that each promise has one outcome.
+-- Laws of plans: what their stores leave, and what a step and a run do.
 -- Assumes nothing.
 use mathlib.Core.Path.{_≡_, refl, sym, ap, _∙_}
 use mathlib.Core.Logic.{_≢_, _⊎_, inl, inr, ⊎-elim}
@@ -10,7 +10,7 @@ use native.Mathlib.Numerals.{add-one}
 use native.Mathlib.Omega.{arith}
 use borrow.Author.Tests.{lt-ltb, le-ltb, le-leb, lt-leb}
 use lib.Dec.{eqb, leb, ltb}
-use lib.ListN.{length, getD, set, take, replicate, length-set, length-map, List·getD-map}
+use lib.ListN.{length, getD, set, take, replicate, length-set, length-append, length-take, length-replicate, length-map, List·getD-map, List·getD-eq-default}
 use lib.Seq.{lt-length-set, take-all, take-suc, getD-set-same, getD-set-other}
 use Rattle.digits.specs.Choice.{pick}
 use Rattle.tree.specs.Tree.{upd}
@@ -71,6 +71,13 @@ padded-at n m [] i d few = repeated-at n m i d
 padded-at zero m (x ∷ l) i d few = absurd (not-suc-le-zero few)
 padded-at (suc n) m (x ∷ l) zero d few = refl
 padded-at (suc n) m (x ∷ l) (suc i) d few = padded-at n m l i d (le-of-suc-le-suc few)
+
+-- 21 of them
+pub plan-places : (σ : List Store) (e : Effect) → (length (planOf σ e .words) ≡ 21) × (length (planOf σ e .values) ≡ 21)
+plan-places σ e = (places (map (λ s. s .word) σ), places (map (λ s. s .value) σ))
+  where
+    places : (l : List ℕ) → length (take 21 (l ++ replicate 21 0)) ≡ 21
+    places l = simp (length-take, length-append) (omega (arith, length-replicate {A = ℕ} 21 0))
 
 -- what the word of every store has, the word of store i has
 pub words-at : (P : ℕ → Type 0) (σ : List Store) (i : ℕ) → i < length σ → Words P σ → P (getD σ i unused .word)
@@ -154,6 +161,12 @@ module _ (σ : List Store) (e : Effect) (few : length σ ≤ 21) where
   pub plan-value : (i : ℕ) → getD (planOf σ e .values) i 0 ≡ getD σ i unused .value
   plan-value i = place-at (λ s. s .value) i
 
+  -- "unused places 0"
+  pub plan-unused : (i : ℕ) → length σ ≤ i → (getD (planOf σ e .words) i 0 ≡ 0) × (getD (planOf σ e .values) i 0 ≡ 0)
+  plan-unused i h =
+      let u = List·getD-eq-default σ unused h in
+      (plan-word i ∙ ap (λ (s : Store). s .word) u, plan-value i ∙ ap (λ (s : Store). s .value) u)
+
   -- a step at or past the count is refused
   pub step-past : (i : ℕ) (pool : List ℕ) → length σ ≤ i → stepOf (planOf σ e) i pool ≡ after 5 pool
   unfolding stepOf
@@ -210,15 +223,3 @@ module _ (σ : List Store) (e : Effect) (few : length σ ≤ 21) where
     run-whole n h =
         let a : min n (length σ) ≡ length σ = omega arith in
         rw (a, take-all n σ h) at (run-made n)
-
--- ---- each promise has one outcome
--- a number and words that an equation fixes
-pub after-unique : {a : After} {r r′ : ℕ} {l l′ : List ℕ} → after r l ≡ a → after r′ l′ ≡ a → (r ≡ r′) × (l ≡ l′)
-after-unique p q = (ap (λ (a : After). a .number) (p ∙ sym q), ap (λ (a : After). a .left) (p ∙ sym q))
-
-pub step-unique : (p : Plan) (i : ℕ) (pool : List ℕ) {r r′ : ℕ} {l l′ : List ℕ} → after r l ≡ stepOf p i pool → after r′ l′ ≡ stepOf p i pool
-    → (r ≡ r′) × (l ≡ l′)
-step-unique p i pool = after-unique
-
-pub run-unique : (n : ℕ) (p : Plan) (pool : List ℕ) {r r′ : ℕ} {l l′ : List ℕ} → ran r l ≡ runOf n p pool → ran r′ l′ ≡ runOf n p pool → (r ≡ r′) × (l ≡ l′)
-run-unique n p pool a b = (ap (λ (x : Ran). x .steps) (a ∙ sym b), ap (λ (x : Ran). x .left) (a ∙ sym b))

@@ -1,5 +1,6 @@
 -- Plans: their stores in order, one step, and a run of steps.
 -- Assumes nothing.
+use mathlib.Core.Path.{_≡_}
 use mathlib.Core.Bool.{true, false}
 use mathlib.Core.List.{List, [], _∷_, _++_, map}
 use Prim.Native.Nat.{ℕ, zero, suc, _+_}
@@ -64,6 +65,10 @@ stepOf p at pool =
     (pick (leb (p .count) at) (after 5 pool)
     (storeOf (getD (p .words) at 0) (getD (p .values) at 0) pool))
 
+-- what step promises
+abbrev pub StepGives : Plan → ℕ → List ℕ → After → Type 0
+StepGives p at pool a = a ≡ stepOf p at pool
+
 -- steps i, i + 1, .. of a plan, at most n, until one is refused: the number of the next step, and the words then
 pub record Ran : Type 0 where
   pub steps : ℕ
@@ -81,3 +86,7 @@ stepsFrom (suc n) p i pool =
 -- the first steps of a plan, at most so many
 abbrev pub runOf : ℕ → Plan → List ℕ → Ran
 runOf most p pool = stepsFrom most p 0 pool
+
+-- what run promises
+abbrev pub RunGives : ℕ → Plan → List ℕ → Ran → Type 0
+RunGives most p pool r = r ≡ runOf most p pool

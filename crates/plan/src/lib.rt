@@ -6,7 +6,7 @@ ghost use lib.ListN.{length, set};
 ghost use Rattle.tree.specs.Stores.{block};
 ghost use Rattle.plan.specs.Effects.{bare};
 ghost use Rattle.plan.specs.Followed.{followed};
-ghost use Rattle.plan.specs.Plans.{planOf, refused, plannedOf, after, storeOf, stepOf, ran, runOf};
+ghost use Rattle.plan.specs.Plans.{planOf, refused, plannedOf, after, storeOf, stepOf, StepGives, ran, RunGives};
 
 // What a plan does to the map. Slots are named by their byte number in the map.
 pub enum Effect {
@@ -141,7 +141,7 @@ fn step_in(pool: &mut [u64], words: &[usize], values: &[u64], count: usize, at: 
 
 // One step makes one store.
 pub fn step(pool: &mut [u64], plan: Plan, at: usize) -> u64
-    ensures { λ r. ⌜ after r (now (pool .exit)) ≡ stepOf plan at (now (pool .entry)) ⌝ }
+    ensures { λ r. ⌜ StepGives plan at (now (pool .entry)) (after r (now (pool .exit))) ⌝ }
 {
     let words = plan.words;
     let values = plan.values;
@@ -151,7 +151,7 @@ pub fn step(pool: &mut [u64], plan: Plan, at: usize) -> u64
 
 // The first steps of a plan, at most so many, until one is refused; how many were made.
 pub fn run(pool: &mut [u64], plan: Plan, most: usize) -> usize
-    ensures { λ r. ⌜ ran r (now (pool .exit)) ≡ runOf most plan (now (pool .entry)) ⌝ }
+    ensures { λ r. ⌜ RunGives most plan (now (pool .entry)) (ran r (now (pool .exit))) ⌝ }
 {
     let words = plan.words;
     let values = plan.values;

@@ -2,7 +2,7 @@
 ghost use mathlib.Core.Path.{_≡_};
 ghost use Rattle.plan.specs.Plans.{plannedOf};
 ghost use Rattle.removing.specs.Removals.{decidedBy};
-ghost use Rattle.rules.specs.Deletes.{deletePlan};
+ghost use Rattle.rules.specs.Deletes.{PlanDeleteGives};
 use plan::Effect;
 use plan::Plan;
 use plan::Planned;
@@ -30,7 +30,7 @@ fn lay(r: Removal) -> Planned
 
 // What a delete stores, in order.
 pub fn plan_delete(pool: &[u64], key: u64) -> Planned
-    ensures { λ r. ⌜ r ≡ plannedOf (deletePlan (now (pool .entry)) key) ⌝ }
+    ensures { λ r. ⌜ PlanDeleteGives (now (pool .entry)) key r ⌝ }
 {
     let Size::Holds(n) = pool::capacity(pool) else {
         return Planned::refused(1);

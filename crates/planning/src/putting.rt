@@ -4,7 +4,7 @@ ghost use Prim.Native.Nat.{_<_, _≤_};
 ghost use lib.ListN.{length};
 ghost use Rattle.pool.specs.Sizes.{bytesOf};
 ghost use Rattle.plan.specs.Plans.{plannedOf};
-ghost use Rattle.rules.specs.Puts.{replaced, putPlan};
+ghost use Rattle.rules.specs.Puts.{replaced, PlanPutGives};
 ghost use Rattle.placing.specs.Leads.{planAt, Able};
 use crate::splitting::grow;
 use crate::splitting::split;
@@ -39,7 +39,7 @@ fn plan_at(map: &[u8], n: usize, key: u64, value: u64, place: Place) -> Planned
 
 // What a put stores, in order.
 pub fn plan_put(pool: &[u64], map: &[u8], key: u64, value: u64) -> Planned
-    ensures { λ r. ⌜ r ≡ plannedOf (putPlan (now (pool .entry)) (now (map .entry)) key value) ⌝ }
+    ensures { λ r. ⌜ PlanPutGives (now (pool .entry)) (now (map .entry)) key value r ⌝ }
 {
     let Size::Holds(n) = pool::capacity(pool) else {
         return Planned::refused(1);

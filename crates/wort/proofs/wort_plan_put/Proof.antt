@@ -10,7 +10,7 @@ hand-out-requires : tie.Need-hand-out-requires
 hand-out-requires c κs = search needs
 
 returns : tie.Need-returns
-returns c = rw (c .before .before .plan-put .ensures) at (c .hand-out .ensures)
+returns c = (c .before .before .plan-put .result, c .before .before .plan-put .ensures, c .hand-out .ensures)
 
 pub wort-plan-put-spec : {M : Type 1} → statement M
 wort-plan-put-spec = tie.close (tie.spec plan-put-requires hand-out-requires returns)
