@@ -1,11 +1,12 @@
 #!/usr/bin/env python3
-"""Holds the statements to what was read, to the letter: tools/statements.sums has a sum for each definition of a statement file, for its `use` and `mod` lines, and for
-each function of the C interface with its promise. Comments and blank lines do not count, nor do the bodies of functions, which are proved.
+"""Holds the statements to what was read, to the letter: tools/statements.sums has a sum for each definition of a statement file, for its
+`use` and `mod` lines, and for each function of the C interface with its promise. Comments and blank lines do not count, nor do the bodies of
+functions, which are proved.
 
 Usage: statements.py [--write]      --write renews the sums, on purpose: a changed sum is what a reviewer reads.
 
-Statement files are those of crates/demands/specs and crates/wort/specs, but Mistakes.antt, which promises nothing. Of other crates those definitions count that the
-statements speak of and no code computes: a proof would not refuse it if they said less.
+Statement files are those of crates/demands/specs and crates/wort/specs, but Mistakes.antt, which promises nothing. Of other crates those
+definitions count that the statements speak of and no code computes: a proof would not refuse it if they said less.
 """
 
 import hashlib

@@ -2,7 +2,7 @@ pub mod Tables
 pub mod Demand1
 pub mod Demand2
 pub mod ByPlan
-pub mod Words
+pub mod FromC
 pub mod Demand3
 pub mod Question
 pub mod Opening
