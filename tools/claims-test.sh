@@ -44,6 +44,7 @@ mistake "demand 3 is not claimed" $specs/Claims.antt $'  pub demand3 : Demand3 I
 mistake "the law is of another statement under its name" $law \
     'specs.specs.Claims.{Claims}' 'specs.specs.Opening.{Opens as Claims}' "$law $line use Rattle.demands.specs.Claims.{Claims}"
 mistake "the law is of another statement" $law 'pub claims : Claims' 'pub claims : Opens' "$law $line pub claims : Claims"
+mistake "the law is in a comment" $law 'pub claims : Claims' $'{-\npub claims : Claims' "$law: a comment over several lines"
 mistake "the law is not checked" crates/demands/proofs/Lib.antt $'\npub mod Claims' '' "proofs/Lib.antt $line pub mod Claims"
 
 # The C interface.
@@ -67,10 +68,12 @@ mistake "names have 32 bits" crates/listing/specs/Rows.antt 'Word x = x < 2 ^ 64
 mistake "room for another number of names" $specs/Demand3.antt \
     '(r : Reading pool bytes T) × (r .sound .n ≡ n)' 'Reading pool bytes T' "Demand3.antt: \`Promised\` $unread"
 mistake "a case is gone" $specs/Cases.antt $'\n    ∷ eqb (firstDiff 7 7) 16' '' "Cases.antt: \`cases\` $unread"
-mistake "a list of stores is gone" $specs/StoreLists.antt $'\n    ∷ storesAre (deletePlan threeBelow 0x202) (11 ∷ 0 ∷ [])' '' "StoreLists.antt: \`storeLists\` $unread"
+mistake "a list of stores is gone" $specs/StoreLists.antt \
+    $'\n    ∷ storesAre (deletePlan threeBelow 0x202) (11 ∷ 0 ∷ [])' '' "StoreLists.antt: \`storeLists\` $unread"
 mistake "what is listed opens, and no more is asked" $specs/Question.antt \
     'InListing s k v ↔ Openable a v' 'InListing s k v → Openable a v' "Question.antt: \`ListedIffOpenable\` $unread"
 mistake "a symbol has another meaning" $specs/Tables.antt 'use Prim.Native.Nat.{ℕ, _<_}' 'use Prim.Native.Nat.{ℕ, _≤_ as _<_}' "Tables.antt: \`use\` $unread"
+mistake "a definition is in a comment" $specs/Demand3.antt 'abbrev pub Cut' $'{-\nabbrev pub Cut' "Demand3.antt: a comment over several lines"
 mistake "a definition is gone" $specs/ByPlan.antt \
     $'\nabbrev pub StepByStep : List ℕ → List Store → Planned → Type 0\nStepByStep' $'\nOther' "ByPlan.antt: \`StepByStep\` is gone"
 echo "$mistakes mistakes refused, each for its own reason"

@@ -6,11 +6,15 @@
 set -euo pipefail
 cd "$(dirname "$0")/.."
 
-# One line of a file, to the letter.
+# One line of a file, to the letter, and not in a comment over several lines.
 has() {
     local line times=0
     while IFS= read -r line; do
         [ "$line" != "$2" ] || times=$((times + 1))
+        if [[ $line == *'{-'* ]]; then
+            echo "$1: a comment over several lines could hide a law" >&2
+            exit 1
+        fi
     done <"$1"
     if [ "$times" != 1 ]; then
         echo "$1 has to have this line, once: $2" >&2

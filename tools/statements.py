@@ -28,7 +28,10 @@ MARKS = {"unfoldable", "abbrev", "pub", "record", "data"}
 
 def lines(path):
     """The lines of a file that are code."""
-    for line in path.read_text().splitlines():
+    text = path.read_text()
+    if "{-" in text or "/*" in text:
+        sys.exit(f"{path.relative_to(ROOT)}: a comment over several lines could hide a definition")
+    for line in text.splitlines():
         line = re.sub(r"(^|\s)(--|//) .*$", "", line).rstrip()
         if line:
             yield line
@@ -50,7 +53,7 @@ def functions(path):
     for line in lines(path):
         if line.startswith(("use ", "ghost use ")):
             parts.setdefault("use", []).append(line)
-        elif found := re.match(r'pub extern "C" fn (\w+)', line):
+        elif found := re.search(r'extern "C" fn (\w+)', line):
             name = found.group(1)
         if name and line != "{":
             parts.setdefault(name, []).append(line)
@@ -66,7 +69,7 @@ def statements():
     parts = {str(f.relative_to(ROOT)): definitions(f) for f in files}
     for file, names in OTHERS.items():
         parts[file] = {n: p for n, p in definitions(ROOT / file).items() if n in names or n == "use"}
-    for f in (ROOT / "crates" / "wort" / "src").glob("*.rt"):
+    for f in (ROOT / "crates" / "wort" / "src").rglob("*.rt"):
         parts[str(f.relative_to(ROOT))] = functions(f)
     for file, by_name in parts.items():
         for name, text in by_name.items():
