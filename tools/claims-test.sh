@@ -1,6 +1,6 @@
 #!/usr/bin/env bash
-# tools/claims.sh refuses what no proof can refuse: a claim that is missing or borrowed, a C function that asks for something or promises something else, a statement
-# that says less. Each mistake is made on a copy, and has to be refused for its own reason.
+# tools/claims.sh refuses what no proof can refuse: a claim that is missing or borrowed, a C function that asks for something or promises
+# something else, a statement that says less. Each mistake is made on a copy, and has to be refused for its own reason.
 set -euo pipefail
 cd "$(dirname "$0")/.."
 copy=$(mktemp -d)
@@ -44,6 +44,7 @@ mistake "demand 3 is not claimed" $specs/Claims.antt $'  pub demand3 : Demand3 I
 mistake "the law is of another statement under its name" $law \
     'specs.specs.Claims.{Claims}' 'specs.specs.Opening.{Opens as Claims}' "$law $line use Rattle.demands.specs.Claims.{Claims}"
 mistake "the law is of another statement" $law 'pub claims : Claims' 'pub claims : Opens' "$law $line pub claims : Claims"
+mistake "the law is in a comment" $law 'pub claims : Claims' $'{-\npub claims : Claims' "$law: a comment over several lines"
 mistake "the law is not checked" crates/demands/proofs/Lib.antt $'\npub mod Claims' '' "proofs/Lib.antt $line pub mod Claims"
 
 # The C interface.
@@ -51,10 +52,10 @@ mistake "wort_lookup requires what nobody meets" $wort $'nodes: &mut u64) -> u64
     $'nodes: &mut u64) -> u64\n    requires { ⌜ length (now pool) ≡ 0 ⌝ }\n    ensures' "no function may have a requires"
 mistake "wort_list lists from 0, as it promises" $wort 'ListGives (now (pool .entry)) from' 'ListGives (now (pool .entry)) 0' "$wort: \`wort_list\` $unread"
 mistake "wort_delete promises nothing" $wort \
-    '    ensures { λ r. ⌜ DeleteGives (now (pool .entry)) (now (map .entry)) key (left' '    ensures { λ r. ⌜ done r ≡ done r ⌝ } // (left' "$wort: \`wort_delete\` $unread"
+    'λ r. ⌜ DeleteGives (now (pool .entry)) (now (map .entry)) key (left' 'λ r. ⌜ done r ≡ done r ⌝ } // (left' "$wort: \`wort_delete\` $unread"
 mistake "a promise is another under its name" $wort 'shown, ListGives}' 'shown, listOf as ListGives}' "$wort: \`use\` $unread"
-mistake "a C function is new" $wort 'pub extern "C" fn wort_step(' $'pub extern "C" fn wort_skip(pool: &mut [u64]) -> u64\n{\n    0\n}\n\npub extern "C" fn wort_step(' \
-    "$wort: \`wort_skip\` is new"
+mistake "a C function is new" $wort 'pub extern "C" fn wort_step(' \
+    $'pub extern "C" fn wort_skip(pool: &mut [u64]) -> u64\n{\n    0\n}\n\npub extern "C" fn wort_step(' "$wort: \`wort_skip\` is new"
 
 # Statements that say less.
 mistake "no cut after the last store" $specs/Demand3.antt '(n : ℕ) → n ≤ length σ' '(n : ℕ) → suc n ≤ length σ' "Demand3.antt: \`InOrder\` $unread"
@@ -64,10 +65,15 @@ mistake "a refusal may change the map" $specs/Demand2.antt $'\n  pub same-map : 
 mistake "a listing answers as the table from 0 alone" $specs/Tables.antt \
     'listOf pool from ks vs ≡ shownRows (upFrom from rows) ks vs' 'listOf pool 0 ks vs ≡ shownRows (upFrom 0 rows) ks vs' "Tables.antt: \`Reads\` $unread"
 mistake "names have 32 bits" crates/listing/specs/Rows.antt 'Word x = x < 2 ^ 64' 'Word x = x < 2 ^ 32' "Rows.antt: \`Word\` $unread"
-mistake "room for another number of names" $specs/Demand3.antt '(r : Reading pool bytes T) × (r .sound .n ≡ n)' 'Reading pool bytes T' "Demand3.antt: \`Promised\` $unread"
+mistake "room for another number of names" $specs/Demand3.antt \
+    '(r : Reading pool bytes T) × (r .sound .n ≡ n)' 'Reading pool bytes T' "Demand3.antt: \`Promised\` $unread"
 mistake "a case is gone" $specs/Cases.antt $'\n    ∷ eqb (firstDiff 7 7) 16' '' "Cases.antt: \`cases\` $unread"
-mistake "a list of stores is gone" $specs/StoreLists.antt $'\n    ∷ stores (deletePlan three 0x202) (11 ∷ 0 ∷ [])' '' "StoreLists.antt: \`storeLists\` $unread"
-mistake "what is listed opens, and no more is asked" $specs/Question.antt 'Listed s k v ↔ Opened a v' 'Listed s k v → Opened a v' "Question.antt: \`ListedAsOpened\` $unread"
+mistake "a list of stores is gone" $specs/StoreLists.antt \
+    $'\n    ∷ storesAre (deletePlan threeBelow 0x202) (11 ∷ 0 ∷ [])' '' "StoreLists.antt: \`storeLists\` $unread"
+mistake "what is listed opens, and no more is asked" $specs/Question.antt \
+    'InListing s k v ↔ Openable a v' 'InListing s k v → Openable a v' "Question.antt: \`ListedIffOpenable\` $unread"
 mistake "a symbol has another meaning" $specs/Tables.antt 'use Prim.Native.Nat.{ℕ, _<_}' 'use Prim.Native.Nat.{ℕ, _≤_ as _<_}' "Tables.antt: \`use\` $unread"
-mistake "a definition is gone" $specs/ByPlan.antt $'\nabbrev pub StepByStep : List ℕ → List Store → Planned → Type 0\nStepByStep' $'\nOther' "ByPlan.antt: \`StepByStep\` is gone"
+mistake "a definition is in a comment" $specs/Demand3.antt 'abbrev pub Cut' $'{-\nabbrev pub Cut' "Demand3.antt: a comment over several lines"
+mistake "a definition is gone" $specs/ByPlan.antt \
+    $'\nabbrev pub StepByStep : List ℕ → List Store → Planned → Type 0\nStepByStep' $'\nOther' "ByPlan.antt: \`StepByStep\` is gone"
 echo "$mistakes mistakes refused, each for its own reason"

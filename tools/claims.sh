@@ -6,11 +6,15 @@
 set -euo pipefail
 cd "$(dirname "$0")/.."
 
-# One line of a file, to the letter.
+# One line of a file, to the letter, and not in a comment over several lines.
 has() {
     local line times=0
     while IFS= read -r line; do
         [ "$line" != "$2" ] || times=$((times + 1))
+        if [[ $line == *'{-'* ]]; then
+            echo "$1: a comment over several lines could hide a law" >&2
+            exit 1
+        fi
     done <"$1"
     if [ "$times" != 1 ]; then
         echo "$1 has to have this line, once: $2" >&2
@@ -24,9 +28,9 @@ has $statement 'use Rattle.demands.specs.Demand1.{Demand1}'
 has $statement 'use Rattle.demands.specs.Causes.{Causes}'
 has $statement 'use Rattle.demands.specs.Demand2.{Demand2Holds}'
 has $statement 'use Rattle.demands.specs.Demand3.{InOrder, Loosely, Demand3, Begins, AtMostOneStale}'
-has $statement 'use Rattle.demands.specs.Question.{ListedAsOpened}'
+has $statement 'use Rattle.demands.specs.Question.{ListedIffOpenable}'
 has $statement 'use Rattle.demands.specs.ByPlan.{ByPlan}'
-has $statement 'use Rattle.demands.specs.Words.{Returns}'
+has $statement 'use Rattle.demands.specs.FromC.{Returns}'
 has $statement 'use Rattle.demands.specs.Opening.{Opens}'
 has $statement 'use Rattle.demands.specs.Unique.{Unique}'
 has $statement 'use Rattle.demands.specs.Cases.{every, cases}'
@@ -39,7 +43,7 @@ has $statement '  pub demand3 : Demand3 InOrder'
 has $statement '  pub one-stale : AtMostOneStale InOrder'
 has $statement '  pub demand3-more : Demand3 Loosely'
 has $statement '  pub one-stale-more : AtMostOneStale Loosely'
-has $statement '  pub question : ListedAsOpened InOrder'
+has $statement '  pub question : ListedIffOpenable InOrder'
 has $statement '  pub begins : Begins'
 has $statement '  pub by-plan : ByPlan'
 has $statement '  pub from-c : Returns'

@@ -18,7 +18,8 @@ is the sum of the rows above it), or a text "`path`: N lines", "N files" or "N e
 "proofs" count the lines below the path's folders specs, src and proofs.
 
 In docs/AUDIT.md, the table of files below "What a reader must believe" has to list just the files that the statements of
-crates/demands and the contracts of the C interface, crates/wort, reach through their `use` lines, and the table below "What a reader need not believe" the others.
+crates/demands and the contracts of the C interface, crates/wort, reach through their `use` lines, and the table below "What a
+reader need not believe" the others.
 Mistakes.antt in crates/demands promises nothing and is no statement.
 
 The counting rule. A line counts unless it is blank, only a comment (-- or // or #), or a `use`, `ghost use` or `mod` line; files are

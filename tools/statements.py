@@ -1,11 +1,12 @@
 #!/usr/bin/env python3
-"""Holds the statements to what was read, to the letter: tools/statements.sums has a sum for each definition of a statement file, for its `use` and `mod` lines, and for
-each function of the C interface with its promise. Comments and blank lines do not count, nor do the bodies of functions, which are proved.
+"""Holds the statements to what was read, to the letter: tools/statements.sums has a sum for each definition of a statement file, for its
+`use` and `mod` lines, and for each function of the C interface with its promise. Comments and blank lines do not count, nor do the bodies of
+functions, which are proved.
 
 Usage: statements.py [--write]      --write renews the sums, on purpose: a changed sum is what a reviewer reads.
 
-Statement files are those of crates/demands/specs and crates/wort/specs, but Mistakes.antt, which promises nothing. Of other crates those definitions count that the
-statements speak of and no code computes: a proof would not refuse it if they said less.
+Statement files are those of crates/demands/specs and crates/wort/specs, but Mistakes.antt, which promises nothing. Of other crates those
+definitions count that the statements speak of and no code computes: a proof would not refuse it if they said less.
 """
 
 import hashlib
@@ -27,7 +28,10 @@ MARKS = {"unfoldable", "abbrev", "pub", "record", "data"}
 
 def lines(path):
     """The lines of a file that are code."""
-    for line in path.read_text().splitlines():
+    text = path.read_text()
+    if "{-" in text or "/*" in text:
+        sys.exit(f"{path.relative_to(ROOT)}: a comment over several lines could hide a definition")
+    for line in text.splitlines():
         line = re.sub(r"(^|\s)(--|//) .*$", "", line).rstrip()
         if line:
             yield line
@@ -49,7 +53,7 @@ def functions(path):
     for line in lines(path):
         if line.startswith(("use ", "ghost use ")):
             parts.setdefault("use", []).append(line)
-        elif found := re.match(r'pub extern "C" fn (\w+)', line):
+        elif found := re.search(r'extern "C" fn (\w+)', line):
             name = found.group(1)
         if name and line != "{":
             parts.setdefault(name, []).append(line)
@@ -65,7 +69,7 @@ def statements():
     parts = {str(f.relative_to(ROOT)): definitions(f) for f in files}
     for file, names in OTHERS.items():
         parts[file] = {n: p for n, p in definitions(ROOT / file).items() if n in names or n == "use"}
-    for f in (ROOT / "crates" / "wort" / "src").glob("*.rt"):
+    for f in (ROOT / "crates" / "wort" / "src").rglob("*.rt"):
         parts[str(f.relative_to(ROOT))] = functions(f)
     for file, by_name in parts.items():
         for name, text in by_name.items():

@@ -6,9 +6,9 @@ use Rattle.demands.proofs.Causes.{causes}
 use Rattle.demands.proofs.Demand2.{demand2-holds}
 use Rattle.demands.proofs.Demand3.{demand3-in-order, demand3-loosely, begins}
 use Rattle.demands.proofs.Stales.{one-stale-in-order, one-stale-loosely}
-use Rattle.demands.proofs.Question.{listed-as-opened}
+use Rattle.demands.proofs.Question.{listed-iff-openable}
 use Rattle.demands.proofs.ByPlan.{by-plan}
-use Rattle.demands.proofs.Words.{returns}
+use Rattle.demands.proofs.FromC.{returns}
 use Rattle.demands.proofs.Opening.{opens}
 use Rattle.demands.proofs.Unique.{unique}
 use Rattle.demands.proofs.Cases.{cases-hold}
@@ -23,7 +23,7 @@ claims = record {
   one-stale = one-stale-in-order;
   demand3-more = demand3-loosely;
   one-stale-more = one-stale-loosely;
-  question = listed-as-opened;
+  question = listed-iff-openable;
   begins = begins;
   by-plan = by-plan;
   from-c = returns;

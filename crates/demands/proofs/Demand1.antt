@@ -37,7 +37,7 @@ use Rattle.opening.specs.Openings.{mendFirst, openIn, openPlan, openOf}
 use Rattle.opening.specs.Openings as opening
 use Rattle.opening.proofs.Answers.{plan-modest, open-number, open-size, open-damage, open-length, open-map-length}
 use Rattle.handing.specs.Plans.{planIn}
-use Rattle.demands.specs.Demand1.{OneOf, Lookup, Listing, Plans, Whole, Opening, Stays, Demand1}
+use Rattle.demands.specs.Demand1.{OneOf, LookupSays, ListSays, Plans, Whole, OpenSays, Stays, Demand1}
 
 -- ---- numbers of a list
 one-of : (l : List ℕ) (x : ℕ) → run.OneOf l x → OneOf l x
@@ -150,7 +150,7 @@ mapped-number pool map k = go (capacityOf pool)
     go Wrong = inr (inl refl)
 
 -- ---- lookup and listing
-looked : {a : Answer} → Looks a → Lookup a
+looked : {a : Answer} → Looks a → LookupSays a
 unfolding OneOf
 looked (finding.done h) = record { number = inl refl; refusal = λ z. absurd (z refl); nodes = h }
 looked (finding.absent h) = record { number = inr (inr (inr (inl refl))); refusal = λ z. refl; nodes = h }
@@ -161,7 +161,7 @@ neither : {n : ℕ} {A : Type 0} → (n ≡ 1 → ⊥) → (n ≡ 6 → ⊥) →
 neither p q (inl e) = absurd (p e)
 neither p q (inr e) = absurd (q e)
 
-shows : (pool : List ℕ) (from : ℕ) (ks vs : List ℕ) {s : Shown} → Lists pool from ks vs s → Listing ks vs s
+shows : (pool : List ℕ) (from : ℕ) (ks vs : List ℕ) {s : Shown} → Lists pool from ks vs s → ListSays ks vs s
 unfolding OneOf
 shows pool from ks vs (listing.size c) = record {
   number = inr (inl refl);
@@ -197,7 +197,7 @@ shows pool from ks vs (listing.done v c e p b) = record {
 }
 
 -- ---- open
-opens : (pool bytes : List ℕ) → Opening pool bytes (openOf pool bytes)
+opens : (pool bytes : List ℕ) → OpenSays pool bytes (openOf pool bytes)
 opens pool bytes = record {
   number = up-to-two (openOf pool bytes .answer .number) (open-number pool bytes);
   refusal = λ h. go h (same? (openOf pool bytes .answer .number) 1);

@@ -1,6 +1,6 @@
 pub mod States
 pub mod ByPlan
-pub mod Words
+pub mod FromC
 pub mod Operations
 pub mod Readings
 pub mod Cases

@@ -35,7 +35,8 @@ use Rattle.rules.proofs.Fits.{put-inside, put-named, delete-inside, delete-name
 use Rattle.rules.proofs.HeldPuts.{PutIs, full, does, put-is}
 use Rattle.rules.proofs.HeldDeletes.{DeleteIs, absent, does as deletes, delete-is}
 use Rattle.demands.specs.Tables.{Table, given, without, Names}
-use Rattle.demands.specs.Demand3.{Op, put, delete, planned, whole, byPlan, effect, Loosely, put-before, put-whole, delete-before, delete-since, InOrder, first}
+use Rattle.demands.specs.Demand3.{Op, put, delete, planned, whole, byPlan, effect}
+use Rattle.demands.specs.Demand3.{Loosely, put-before, put-whole, delete-before, delete-since, InOrder, first}
 use Rattle.demands.proofs.ByPlan.{put-carried, delete-carried}
 use Rattle.demands.proofs.States.{State, fits, tree-names, stored, finish-marks}
 

@@ -19,7 +19,7 @@ use Rattle.held.specs.Ways.{mem}
 use Rattle.finding.specs.Lookups.{Answer, lookupOf, Finds}
 use Rattle.listing.specs.Rows.{upFrom, shownRows}
 use Rattle.demands.specs.Demand3.{Op, Cut, InOrder, Loosely}
-use Rattle.demands.specs.Question.{Listed, Opened, ListedAsOpened}
+use Rattle.demands.specs.Question.{InListing, Openable, ListedIffOpenable}
 use Rattle.demands.proofs.Readings.{state-reads, rows-leaves}
 use Rattle.demands.proofs.Operations.{in-order-loosely}
 use Rattle.demands.proofs.Demand3.{reach-state}
@@ -68,7 +68,7 @@ field-at : (f : Entry ℕ → ℕ) (rows : List (Entry ℕ)) (rest : List ℕ) (
     → getD (map f rows ++ rest) i (f nobody) ≡ f (getD rows i nobody)
 field-at f rows rest i h = List·getD-append (map f rows) rest (f nobody) i (omega (arith, length-map rows f)) ∙ List·getD-map f rows i nobody
 
-listed-row : (rows : List (Entry ℕ)) (ks vs : List ℕ) → length rows ≤ length ks → (k v : ℕ) → Listed (shownRows rows ks vs) k v ↔ Row rows k v
+listed-row : (rows : List (Entry ℕ)) (ks vs : List ℕ) → length rows ≤ length ks → (k v : ℕ) → InListing (shownRows rows ks vs) k v ↔ Row rows k v
 unfolding shownRows
 listed-row rows ks vs room k v =
     let key : Entry ℕ → ℕ = λ e. e .key in
@@ -79,25 +79,25 @@ listed-row rows ks vs room k v =
     )
 
 -- ---- lookup
-opened-found : (o : Option ℕ) (a : Answer) → Finds o a → (v : ℕ) → (o ≡ some v) ↔ Opened a v
-opened-found none a f v = ((λ e. let z : _≡_ {A = ℕ} 0 1 = cc in absurd (omega arith)), (λ e. absurd (omega (arith, e .0, f .0))))
-opened-found (some u) a f v = ((λ e. let q : u ≡ v = cc in (f .0, f .1 ∙ q)), (λ e. ap some (sym (f .1) ∙ e .1)))
+openable-found : (o : Option ℕ) (a : Answer) → Finds o a → (v : ℕ) → (o ≡ some v) ↔ Openable a v
+openable-found none a f v = ((λ e. let z : _≡_ {A = ℕ} 0 1 = cc in absurd (omega arith)), (λ e. absurd (omega (arith, e .0, f .0))))
+openable-found (some u) a f v = ((λ e. let q : u ≡ v = cc in (f .0, f .1 ∙ q)), (λ e. ap some (sym (f .1) ∙ e .1)))
 
 -- ---- every state that is reached
 module _ (C : Cut) (within : (o : Op) (σ τ : List Store) (b : Bool) → 0 < length σ → C o σ τ b → Loosely o σ τ b) where
-  listed-as-opened-of : ListedAsOpened C
-  listed-as-opened-of n pool bytes T r ks vs room equal s e k v a q =
+  listed-iff-openable-of : ListedIffOpenable C
+  listed-iff-openable-of n pool bytes T r ks vs room equal s e k v a q =
       let S = reach-state C within r in
       let R = state-reads S in
       let few : length (R .rows) ≤ length ks = omega (arith, rows-leaves S R, leaves-fit 16 n (mem pool) (S .t) (S .holds .held)) in
       let shown : s ≡ shownRows (R .rows) ks vs =
       e ∙ R .listing 0 ks vs (λ z. omega (arith, S .pos)) equal ∙ ap (λ (l : List (Entry ℕ)). shownRows l ks vs) (up-from-zero (R .rows)) in
       let row = listed-row (R .rows) ks vs few k v in
-      let found = opened-found (T k) (lookupOf pool k) (R .lookup k) v in
+      let found = openable-found (T k) (lookupOf pool k) (R .lookup k) v in
       rw (shown, q) (
         (λ l. let i = row .0 l in found .0 (sym (R .written .same k) ∙ row-look (R .rows) (R .written .rising) k v (i .0) (i .1) (i .2) (i .3))),
         (λ o. row .1 (look-row (R .rows) k v (R .written .same k ∙ found .1 o))),
       )
 
-pub listed-as-opened : ListedAsOpened InOrder
-listed-as-opened = listed-as-opened-of InOrder (λ o σ τ b. in-order-loosely)
+pub listed-iff-openable : ListedIffOpenable InOrder
+listed-iff-openable = listed-iff-openable-of InOrder (λ o σ τ b. in-order-loosely)

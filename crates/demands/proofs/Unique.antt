@@ -5,7 +5,7 @@ use lib.Dec.{eqb}
 use Rattle.digits.specs.Choice.{pick}
 use Rattle.plan.specs.declared.Planned.{Planned}
 use Rattle.finding.proofs.Answers.{told-injective}
-use Rattle.listing.specs.Listings.{Told, listed}
+use Rattle.listing.specs.Listings.{Told, numbers}
 use Rattle.listing.specs.declared.Listed.{Listed}
 use Rattle.handing.specs.Plans.{plannedIn, HandedOut}
 use Rattle.demands.specs.Unique.{OneOutcome, Unique}
@@ -17,15 +17,15 @@ equation x = record { met = refl; one = λ a b p q. p ∙ sym q }
 abbrev untold : Told → Listed
 untold t = record { number = t .number; count = t .count; more = eqb (t .more) 1 }
 
-untold-listed : (a : Listed) → untold (listed (a .number) (a .count) (a .more)) ≡ a
-untold-listed a = ap (λ (m : Bool). record { number = a .number; count = a .count; more = m }) (back (a .more))
+untold-numbers : (a : Listed) → untold (numbers a) ≡ a
+untold-numbers a = ap (λ (m : Bool). record { number = a .number; count = a .count; more = m }) (back (a .more))
   where
     back : (m : Bool) → eqb (pick m 1 0) 1 ≡ m
     back true = refl
     back false = refl
 
-further-one : (a b : Listed) → listed (a .number) (a .count) (a .more) ≡ listed (b .number) (b .count) (b .more) → a ≡ b
-further-one a b e = sym (untold-listed a) ∙ ap untold e ∙ untold-listed b
+further-one : (a b : Listed) → numbers a ≡ numbers b → a ≡ b
+further-one a b e = sym (untold-numbers a) ∙ ap untold e ∙ untold-numbers b
 
 handed-one : (Gives : Planned → Type 0) (p : Planned) → OneOutcome Gives p → OneOutcome (HandedOut Gives) (plannedIn p)
 handed-one Gives p o = record {

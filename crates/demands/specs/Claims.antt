@@ -6,9 +6,9 @@ use Rattle.demands.specs.Demand1.{Demand1}
 use Rattle.demands.specs.Causes.{Causes}
 use Rattle.demands.specs.Demand2.{Demand2Holds}
 use Rattle.demands.specs.Demand3.{InOrder, Loosely, Demand3, Begins, AtMostOneStale}
-use Rattle.demands.specs.Question.{ListedAsOpened}
+use Rattle.demands.specs.Question.{ListedIffOpenable}
 use Rattle.demands.specs.ByPlan.{ByPlan}
-use Rattle.demands.specs.Words.{Returns}
+use Rattle.demands.specs.FromC.{Returns}
 use Rattle.demands.specs.Opening.{Opens}
 use Rattle.demands.specs.Unique.{Unique}
 use Rattle.demands.specs.Cases.{every, cases}
@@ -25,7 +25,7 @@ pub record Claims : Type 0 where
   pub demand3-more : Demand3 Loosely
   pub one-stale-more : AtMostOneStale Loosely
   -- "Is every name in the listing still openable, and is every openable name in the listing?"
-  pub question : ListedAsOpened InOrder
+  pub question : ListedIffOpenable InOrder
   pub begins : Begins
   pub by-plan : ByPlan
   pub from-c : Returns

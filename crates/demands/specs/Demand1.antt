@@ -28,13 +28,13 @@ OneOf [] k = ⊥
 OneOf (a ∷ l) k = (k ≡ a) ⊎ OneOf l k
 
 -- lookup: "Refusals give 0 in every number field but lookup's node count", which is at most 16
-pub record Lookup (a : Answer) : Type 0 where
+pub record LookupSays (a : Answer) : Type 0 where
   pub number : OneOf (0 ∷ 1 ∷ 2 ∷ 3 ∷ []) (a .number)
   pub refusal : (a .number ≡ 0 → ⊥) → a .value ≡ 0
   pub nodes : a .nodes ≤ 16
 
 -- listing: 1 and 6 leave the buffers, 2 makes both all 0; "Entries beyond the count keep their contents"
-pub record Listing (ks vs : List ℕ) (s : Shown) : Type 0 where
+pub record ListSays (ks vs : List ℕ) (s : Shown) : Type 0 where
   pub number : OneOf (0 ∷ 1 ∷ 2 ∷ 6 ∷ []) (s .answer .number)
   pub refusal : (s .answer .number ≡ 0 → ⊥) → (s .answer .count ≡ 0) × (s .answer .more ≡ 0)
   pub kept : (s .answer .number ≡ 1) ⊎ (s .answer .number ≡ 6) → (s .keys ≡ ks) × (s .values ≡ vs)
@@ -59,7 +59,7 @@ pub record Whole (numbers : List ℕ) (pool map : List ℕ) (l : Left) : Type 0 
   pub same-bytes : length (l .map) ≡ length map
 
 -- open: "2 | damage met | pool unchanged; open: map all 0"
-pub record Opening (pool map : List ℕ) (l : LeftOpen) : Type 0 where
+pub record OpenSays (pool map : List ℕ) (l : LeftOpen) : Type 0 where
   pub number : OneOf (0 ∷ 1 ∷ 2 ∷ []) (l .answer .number)
   pub refusal : (l .answer .number ≡ 0 → ⊥) → (l .pool ≡ pool) × (l .answer .keys ≡ 0) × (l .answer .headers ≡ 0)
   pub size : l .answer .number ≡ 1 → l .map ≡ map
@@ -74,8 +74,8 @@ pub record Stays (memory : List ℕ) (a : After) : Type 0 where
   pub same-length : length (a .left) ≡ length memory
 
 pub record Demand1 : Type 0 where
-  pub lookup : (pool : List ℕ) (k : ℕ) (a : Answer) → LookupGives pool k a → Lookup a
-  pub list : (pool : List ℕ) (from : ℕ) (ks vs : List ℕ) (s : Shown) → ListGives pool from ks vs s → Listing ks vs s
+  pub lookup : (pool : List ℕ) (k : ℕ) (a : Answer) → LookupGives pool k a → LookupSays a
+  pub list : (pool : List ℕ) (from : ℕ) (ks vs : List ℕ) (s : Shown) → ListGives pool from ks vs s → ListSays ks vs s
   pub plan-put : (pool map : List ℕ) (k v : ℕ) (p : Planned) → PlanPutGives pool map k v p → Plans (0 ∷ 1 ∷ 2 ∷ 4 ∷ []) pool p
   pub plan-delete : (pool : List ℕ) (k : ℕ) (p : Planned) → PlanDeleteGives pool k p → Plans (0 ∷ 1 ∷ 2 ∷ 3 ∷ []) pool p
   pub plan-open : (pool : List ℕ) (p : Planned) → PlanOpenGives pool p → Plans (0 ∷ 1 ∷ 2 ∷ []) pool p
@@ -83,7 +83,7 @@ pub record Demand1 : Type 0 where
   pub delete : (pool map : List ℕ) (k : ℕ) (l : Left) → DeleteGives pool map k l → Whole (0 ∷ 1 ∷ 2 ∷ 3 ∷ []) pool map l
   pub format : (pool map : List ℕ) (n : ℕ) (f : Formatted) → FormatGives pool map n f
       → Whole (0 ∷ 1 ∷ []) pool map (left (done (f .number) 0) (f .pool) (f .map))
-  pub opening : (pool map : List ℕ) (l : LeftOpen) → OpenGives pool map l → Opening pool map l
+  pub opening : (pool map : List ℕ) (l : LeftOpen) → OpenGives pool map l → OpenSays pool map l
   pub step : (p : Plan) (at : ℕ) (pool : List ℕ) (a : After) → StepGives p at pool a → Stays pool a
   pub finish : (p : Plan) (map : List ℕ) (a : After) → FinishGives p map a → Stays map a
   pub finish-words : (words map : List ℕ) (a : After) → FinishInGives words map a → Stays map a

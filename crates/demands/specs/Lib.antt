@@ -4,7 +4,7 @@ pub mod Ways
 pub mod Causes
 pub mod Demand2
 pub mod ByPlan
-pub mod Words
+pub mod FromC
 pub mod Demand3
 pub mod Question
 pub mod Opening

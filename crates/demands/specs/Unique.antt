@@ -8,7 +8,7 @@ use Rattle.plan.specs.Plans.{plannedOf, stepOf, StepGives, runOf, RunGives}
 use Rattle.finishing.specs.Finishes.{finishOf, FinishGives}
 use Rattle.plan.specs.declared.Plan.{Plan}
 use Rattle.finding.specs.Lookups.{told, lookupOf, LookupGives}
-use Rattle.listing.specs.Listings.{listed, listOf, ListGives}
+use Rattle.listing.specs.Listings.{numbers, listOf, ListGives}
 use Rattle.finding.specs.declared.Found.{Found}
 use Rattle.listing.specs.declared.Listed.{Listed}
 use Rattle.rules.specs.Puts.{putPlan, PlanPutGives}
@@ -38,7 +38,7 @@ pub record Unique : Type 0 where
   pub opening : (pool map : List ℕ) → OneOutcome (OpenGives pool map) (openOf pool map)
   -- the numbers of an answer are of one case: what lookup finds, and whether a listing found a further entry
   pub found : (f g : Found) → told f ≡ told g → f ≡ g
-  pub further : (a b : Listed) → listed (a .number) (a .count) (a .more) ≡ listed (b .number) (b .count) (b .more) → a ≡ b
+  pub further : (a b : Listed) → numbers a ≡ numbers b → a ≡ b
   -- the plans handed out to C as words, and a finish by such words
   pub plan-put-words : (pool map : List ℕ) (k v : ℕ) → OneOutcome (HandedOut (PlanPutGives pool map k v)) (plannedIn (plannedOf (putPlan pool map k v)))
   pub plan-delete-words : (pool : List ℕ) (k : ℕ) → OneOutcome (HandedOut (PlanDeleteGives pool k)) (plannedIn (plannedOf (deletePlan pool k)))

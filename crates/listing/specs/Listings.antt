@@ -19,6 +19,7 @@ use Rattle.walk.specs.Walks.{headOf, childrenOf}
 use Rattle.walk.specs.declared.Head.{Head}
 use Rattle.walk.specs.declared.Head.the-variants.{Branch, Wrong as Unaccepted}
 use Rattle.listing.specs.declared.State.{State}
+use Rattle.listing.specs.declared.Listed.{Listed}
 
 -- the two buffers, and the state of the visit: entries handed out, leaves met, and a phase: 0 the visit goes on, 1 a further entry was found,
 -- 2 damage was met
@@ -79,9 +80,12 @@ pub record Told : Type 0 where
 abbrev pub told : ℕ → ℕ → ℕ → Told
 told k c m = record { number = k; count = c; more = m }
 
--- the same by the test, as the code's answer has it
 abbrev pub listed : ℕ → ℕ → Bool → Told
 listed k c further = told k c (pick further 1 0)
+
+-- the numbers of the code's answer
+abbrev pub numbers : Listed → Told
+numbers a = listed (a .number) (a .count) (a .more)
 
 -- what a listing leaves: the buffers and the answer
 pub record Shown : Type 0 where

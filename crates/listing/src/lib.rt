@@ -6,7 +6,7 @@ ghost use lib.ListN.{length, replicate};
 ghost use Rattle.digits.specs.Loops.{scan};
 ghost use Rattle.pool.specs.Sizes.{Sized};
 ghost use Rattle.walk.specs.Walks.{isChild};
-ghost use Rattle.listing.specs.Listings.{state, visit, damaged, leafOf, nodeOf, visitFrom, listed, shown, ListGives};
+ghost use Rattle.listing.specs.Listings.{state, visit, damaged, leafOf, nodeOf, visitFrom, numbers, shown, ListGives};
 use digits::Header;
 use pool::Ref;
 use pool::Size;
@@ -215,7 +215,7 @@ fn refused(number: u64) -> Listed
 
 // The entries with a key at or above `from`, in the order of their keys, until the buffers are full.
 pub fn list(pool: &[u64], from: u64, keys: &mut [u64], values: &mut [u64]) -> Listed
-    ensures { λ r. ⌜ ListGives (now (pool .entry)) from (now (keys .entry)) (now (values .entry)) (shown (now (keys .exit)) (now (values .exit)) (listed (r .number) (r .count) (r .more))) ⌝ }
+    ensures { λ r. ⌜ ListGives (now (pool .entry)) from (now (keys .entry)) (now (values .entry)) (shown (now (keys .exit)) (now (values .exit)) (numbers r)) ⌝ }
 {
     let Size::Holds(n) = pool::capacity(pool) else {
         return refused(1);

@@ -208,7 +208,14 @@ module _ (n : ℕ) (pos : 1 ≤ n) (cap : n ≤ 1024) (t : Tree ℕ) where
 
     pub so-far : (i : ℕ) → i ≤ n - 1 → SoFar i (mended n marks i p)
     unfolding upto openSteps
-    so-far zero l = record { pool = P; straight = λ j k. absurd (omega arith); kept = λ y h. refl; steps = refl; each = λ k h. absurd (omega arith); few = omega arith }
+    so-far zero l = record {
+      pool = P;
+      straight = λ j k. absurd (omega arith);
+      kept = λ y h. refl;
+      steps = refl;
+      each = λ k h. absurd (omega arith);
+      few = omega arith;
+    }
     so-far (suc i) l = next i (omega arith) (mended n marks i p) (so-far i (omega arith))
 
     abbrev pub end : Mended

@@ -14,17 +14,17 @@ use Rattle.opening.specs.Openings.{PlanOpenGives}
 use Rattle.handing.specs.Plans.{wordsOf, planIn, FinishInGives, PlannedWords, HandedOut}
 
 -- "A plan holds at most 21 stores": it has 21 places
-abbrev pub Places : Plan → Type 0
-Places p = (length (p .words) ≡ 21) × (length (p .values) ≡ 21)
+abbrev pub AllPlaces : Plan → Type 0
+AllPlaces p = (length (p .words) ≡ 21) × (length (p .values) ≡ 21)
 
 -- the answer of a planning call, read off what C was handed
 abbrev pub takenIn : PlannedWords → Planned
 takenIn w = record { number = w .number; plan = planIn (w .plan) }
 
 pub record Returns : Type 0 where
-  pub plan : (p : Plan) → Places p → planIn (wordsOf p) ≡ p
+  pub plan : (p : Plan) → AllPlaces p → planIn (wordsOf p) ≡ p
   -- what wort_step and wort_finish do with the words is what step and finish do with the plan
-  pub step : (p : Plan) → Places p → (at : ℕ) (pool : List ℕ) (a : After) → StepGives (planIn (wordsOf p)) at pool a → StepGives p at pool a
+  pub step : (p : Plan) → AllPlaces p → (at : ℕ) (pool : List ℕ) (a : After) → StepGives (planIn (wordsOf p)) at pool a → StepGives p at pool a
   pub finish : (p : Plan) (map : List ℕ) (a : After) → FinishInGives (wordsOf p) map a → FinishGives p map a
   -- what wort_plan_put, wort_plan_delete and wort_plan_open hand out is, taken in again, what plan_put, plan_delete and plan_open promise
   pub put : (pool map : List ℕ) (k v : ℕ) (w : PlannedWords) → HandedOut (PlanPutGives pool map k v) w → PlanPutGives pool map k v (takenIn w)

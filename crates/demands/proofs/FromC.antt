@@ -7,7 +7,7 @@ use Rattle.rules.specs.Deletes.{deletePlan}
 use Rattle.opening.specs.Openings.{openPlan}
 use Rattle.handing.specs.Plans.{PlannedWords, HandedOut}
 use Rattle.handing.proofs.Returns.{plan-returns, finish-returns}
-use Rattle.demands.specs.Words.{takenIn, Returns}
+use Rattle.demands.specs.FromC.{takenIn, Returns}
 
 -- every plan that is decided has 21 places
 planned-returns : (d : Decided) (w : PlannedWords) → HandedOut (λ p. p ≡ plannedOf d) w → takenIn w ≡ plannedOf d
