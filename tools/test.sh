@@ -42,6 +42,9 @@ if ! rt staticlib wort || ! (cd host && ../tools/for-x86-64.sh cargo test --rele
     echo "The library and the model differ, or the tests do not build: see above." >&2
     exit 1
 fi
+part "stores at the machine"
+tools/stores.sh
+tools/stores.sh --can-fail
 part "pictures and the walk-through, as the library does it"
 tools/for-x86-64.sh tools/pictures.py --check
 part ""
