@@ -1,13 +1,15 @@
 -- How many stores each case of a put and of a delete makes.
 -- Assumes nothing.
 use mathlib.Core.Path.{_≡_, refl}
-use Prim.Native.Nat.{ℕ}
+use Prim.Native.Nat.{ℕ, _≤_}
+use native.Mathlib.Omega.{arith}
 use lib.ListN.{length}
 use Rattle.tree.specs.Stores.{block, tab}
 use Rattle.layout.specs.Operations.{putStores, growing}
 use Rattle.walk.specs.declared.Spot.{Spot}
 use Rattle.walk.specs.declared.Lowest.the-variants.{Key}
 use Rattle.rules.specs.declared.Cleft.{Cleft}
+use Rattle.rules.specs.declared.Target.{Target}
 use Rattle.rules.specs.declared.Target.the-variants.{ALeaf, ANode}
 use Rattle.rules.specs.Puts.{cleaving, replaced}
 use Rattle.rules.specs.Deletes.{emptied, bypassed, liftOf}
@@ -30,6 +32,10 @@ module _ (n : ℕ) (s : Cleft) (leaf node k v : ℕ) where
   pub node-split-count : (j b : ℕ) → length (putStores (cleaving n s leaf node k v (ANode j b))) ≡ 21
   unfolding block tab
   node-split-count j b = refl
+
+  pub split-few : (target : Target) → length (putStores (cleaving n s leaf node k v target)) ≤ 21
+  split-few ALeaf = rw leaf-split-count (omega arith)
+  split-few (ANode j b) = rw (node-split-count j b) (omega arith)
 
 -- the root, or a child of a node of three or more, "becomes 0. 1 store."
 pub emptied-count : (at i : ℕ) → length (emptied at i .stores) ≡ 1
