@@ -113,7 +113,8 @@ pub fn splitting(
     node: usize,
 ) -> usize
     requires { ⌜ Holding 21 (now words) (now values) × (n ≤ 1024) × (leaf < n) × (node < n) × Cloven s × Splits n s target ⌝ }
-    ensures { λ r. ⌜ Lays 0 (putStores (cleaving n s leaf node key value target)) (now (words .entry)) (now (values .entry)) r (now (words .exit)) (now (values .exit)) ⌝ }
+    ensures { λ r. ⌜ Lays 0 (putStores (cleaving n s leaf node key value target))
+        (now (words .entry)) (now (values .entry)) r (now (words .exit)) (now (values .exit)) ⌝ }
 {
     let link = pool::node_ref(node);
     let place = lay_new(words, values, n, s, key, value, leaf, node); // what is new first, where no walk comes yet

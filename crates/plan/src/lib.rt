@@ -62,13 +62,6 @@ impl Plan {
 }
 
 impl Planned {
-    // A plan that is to be made.
-    pub fn made(plan: Plan) -> Planned
-        ensures { λ r. ⌜ r ≡ record { number = 0; plan = plan } ⌝ }
-    {
-        Planned { number: 0, plan }
-    }
-
     // A refusal, with a plan that does nothing.
     pub fn refused(number: u64) -> Planned
         ensures { λ r. ⌜ r ≡ plannedOf (refused number) ⌝ }

@@ -10,12 +10,6 @@ use lib.Seq.{sets, sets-eq, take-append-add}
 use Rattle.tree.specs.Stores.{Store}
 use Rattle.plan.specs.Plans.{padded, decided, refused, plannedOf}
 use Rattle.plan.specs.declared.Effect.{Effect}
-use Rattle.layout.specs.Operations.{putStores}
-use Rattle.rules.specs.Puts.{cleaving}
-use Rattle.rules.specs.declared.Cleft.{Cleft}
-use Rattle.rules.specs.declared.Target.{Target}
-use Rattle.rules.specs.declared.Target.the-variants.{ALeaf, ANode}
-use Rattle.rules.proofs.Counts.{leaf-split-count, node-split-count}
 use Rattle.laying.specs.Lays.{Lays, Holding}
 use Rattle.planning.specs.declared.laid.Laid.{Laid}
 use Rattle.planning.specs.Gathered.{Blank, gathered, laidOf}
@@ -61,8 +55,3 @@ module _ {ws vs : List ℕ} (blank : Blank ws vs) where
   -- so many places are there
   pub blank-holding : (k : ℕ) → k ≤ 21 → Holding k ws vs
   blank-holding k h = rw (blank .0, blank .1) (h, h)
-
--- a split has at most 21 stores
-pub split-few : (n : ℕ) (s : Cleft) (leaf node k v : ℕ) (target : Target) → length (putStores (cleaving n s leaf node k v target)) ≤ 21
-split-few n s leaf node k v ALeaf = rw (leaf-split-count n s leaf node k v) (omega arith)
-split-few n s leaf node k v (ANode j b) = rw (node-split-count n s leaf node k v j b) (omega arith)

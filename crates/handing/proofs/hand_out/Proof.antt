@@ -1,41 +1,17 @@
--- `hand_out` writes the count and the effect, then the stores. Assumes nothing.
 use borrow.Author.Needs.{needs}
-use mathlib.Core.Path.{ap}
-use Rattle.handing.specs.Plans.{planned}
-use Rattle.handing.proofs.Laws.{laid-out}
 use Rattle.handing.proofs.hand_out.Statement.{statement}
 use Rattle.handing.proofs.hand_out.Tie as tie
+use Rattle.handing.proofs.hand_out.Reads as reads
+use Rattle.handing.proofs.hand_out.Lts as lts
+use Rattle.handing.proofs.lay_plan.Reads as lay-plan-reads
 
-element-write-plan : tie.Need-element-write-plan
-element-write-plan c = search needs
+-- src/lib.rt:69:5
+lay-plan-requires : tie.Need-lay-plan-requires
+lay-plan-requires c κs = search needs
 
-lay-effect-requires : tie.Need-lay-effect-requires
-lay-effect-requires c κs = search needs
-
-slice-aggregate-lay-stores : tie.Need-slice-aggregate-lay-stores
-slice-aggregate-lay-stores c = search needs
-
-slice-aggregate-lay-stores-2 : tie.Need-slice-aggregate-lay-stores-2
-slice-aggregate-lay-stores-2 c = search needs
-
-lay-stores-requires : tie.Need-lay-stores-requires
-lay-stores-requires c κs = search needs
-
+-- src/lib.rt:63:1
 returns : tie.Need-returns
-returns c =
-    let at-lay-stores-arg = c .before .before .before in
-    let at-lay-effect = at-lay-stores-arg .before in
-    let start = at-lay-effect .before .before .before .before .before in
-    ap (planned (start .args .p .number)) (laid-out (start .args .plan .now) _ _ (start .args .p .plan) (at-lay-effect .lay-effect .ensures)
-    (at-lay-stores-arg .lay-stores-arg .given .0 .1) (c .lay-stores .ensures))
+returns c = ?
 
 pub hand-out-spec : {M : Type 1} → statement M
-hand-out-spec =
-    tie.close
-    (tie.spec
-    element-write-plan
-    lay-effect-requires
-    slice-aggregate-lay-stores
-    slice-aggregate-lay-stores-2
-    lay-stores-requires
-    returns)
+hand-out-spec = tie.close (tie.spec lay-plan-requires returns)

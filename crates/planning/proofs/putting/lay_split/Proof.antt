@@ -5,8 +5,9 @@ use native.Mathlib.Omega.{arith}
 use borrow.Author.Needs.{needs}
 use Rattle.pool.specs.Sizes.{bytesOf}
 use Rattle.plan.specs.declared.Effect.the-variants.{TakesBoth}
+use Rattle.rules.proofs.Counts.{split-few}
 use Rattle.rules.proofs.Splits.{slots-inside}
-use Rattle.planning.proofs.Plans.{gathered-none, gathered-laid, blank-holding, split-few}
+use Rattle.planning.proofs.Plans.{gathered-none, gathered-laid, blank-holding}
 use Rattle.planning.proofs.putting.lay_split.Statement.{statement}
 use Rattle.planning.proofs.putting.lay_split.Tie as tie
 
