@@ -3,7 +3,7 @@ ghost use mathlib.Core.Path.{_≡_};
 ghost use mathlib.Core.List.{[], _∷_, _++_};
 ghost use lib.ListN.{length, take};
 ghost use lib.Seq.{sets};
-ghost use Rattle.handing.specs.Plans.{effectWords, effectOf, planIn, planned, plannedIn};
+ghost use Rattle.handing.specs.Plans.{effectWords, wordsOf, effectOf, planIn, planned, plannedIn};
 use plan::Effect;
 use plan::Plan;
 use plan::Planned;

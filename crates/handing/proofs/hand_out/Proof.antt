@@ -1,17 +1,14 @@
+-- `hand_out` writes the plan of what a planning call answers, and hands on its number. Assumes nothing.
+use mathlib.Core.Path.{ap}
 use borrow.Author.Needs.{needs}
+use Rattle.handing.specs.Plans.{planned}
 use Rattle.handing.proofs.hand_out.Statement.{statement}
 use Rattle.handing.proofs.hand_out.Tie as tie
-use Rattle.handing.proofs.hand_out.Reads as reads
-use Rattle.handing.proofs.hand_out.Lts as lts
-use Rattle.handing.proofs.lay_plan.Reads as lay-plan-reads
 
--- src/lib.rt:69:5
-lay-plan-requires : tie.Need-lay-plan-requires
-lay-plan-requires c κs = search needs
-
--- src/lib.rt:63:1
 returns : tie.Need-returns
-returns c = ?
+returns c =
+    let start = c .before .before .before .before .before .before .before .before in
+    ap (planned (start .args .p .number)) (c .lay-plan .ensures)
 
 pub hand-out-spec : {M : Type 1} → statement M
-hand-out-spec = tie.close (tie.spec lay-plan-requires returns)
+hand-out-spec = tie.close (tie.spec (λ c κs. search needs) returns)
