@@ -38,7 +38,7 @@ COMMANDS = {"rt", "gcc", "cargo", "python3", "make"}
 OTHERS = set(
     "let else match requires ensures use ghost pub mod struct enum array u64 u8 usize leading_zeros specs src proofs declared"
     " unicodedata NFC BTreeMap LMDB JudyL NOSYNC WRITEMAP libwort passed failed logic proved number stdin stdout SEED COUNT MOST"
-    " WORT_LIB_DIR WORT_LIB_NAME FILE DIR release bin long exhaust staticlib"
+    " WORT_LIB_DIR WORT_LIB_NAME FILE DIR release bin long exhaust staticlib can-fail by-plan memcpy memset"
     " length take drop getD set replicate".split()  # the toolchain's lists
 )
 NAME = re.compile(r"[^\W\d][\w′₀-₉'≤≥<>≡-]*", re.U)

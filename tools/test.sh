@@ -42,6 +42,12 @@ if ! rt staticlib wort || ! (cd host && ../tools/for-x86-64.sh cargo test --rele
     echo "The library and the model differ, or the tests do not build: see above." >&2
     exit 1
 fi
+part "the stack of each call, as compiled"
+tools/stack.py --check docs/AUDIT.md
+tools/stack.py --below 1024 wort_lookup wort_put wort_delete wort_plan_put wort_plan_delete wort_step wort_finish
+part "stores at the machine"
+tools/stores.sh
+tools/stores.sh --can-fail
 part "pictures and the walk-through, as the library does it"
 tools/for-x86-64.sh tools/pictures.py --check
 part ""

@@ -2,17 +2,19 @@
 -- Assumes nothing.
 use mathlib.Core.Path.{_≡_, refl, sym, ap, _∙_}
 use mathlib.Core.List.{List}
-use Prim.Native.Nat.{ℕ, _-_, _≤_, _<_}
+use Prim.Native.Nat.{ℕ, zero, suc, _-_, _≤_, _<_}
+use native.Mathlib.Numerals.{add-one}
 use native.Mathlib.Omega.{arith}
-use lib.ListN.{length}
+use lib.ListN.{length, take}
+use lib.Seq.{take-all}
 use Rattle.pool.specs.Sizes.{capacityOf}
 use Rattle.pool.specs.declared.Size.{Size}
 use Rattle.pool.specs.declared.Size.the-variants.{Holds, Wrong}
 use Rattle.tree.proofs.Basics.{Same?, same, other, same?}
 use Rattle.tree.proofs.Stores.{Words}
-use Rattle.plan.specs.Plans.{Decided, refused, plannedOf, stepsFrom}
+use Rattle.plan.specs.Plans.{made, after, Decided, refused, plannedOf}
 use Rattle.plan.specs.declared.Planned.{Planned}
-use Rattle.plan.proofs.Laws.{plan-word, plan-value, run-made, run-whole}
+use Rattle.plan.proofs.Laws.{plan-word, plan-value, step-after}
 use Rattle.finishing.specs.Finishes.{finishOf}
 use Rattle.finishing.proofs.Laws.{finish-done}
 use Rattle.rules.specs.Puts.{putPlan}
@@ -22,19 +24,25 @@ use Rattle.writing.specs.Calls.{wholeOf, putOf, deleteOf}
 use Rattle.writing.proofs.Wholes.{put-made, delete-unsized-whole, delete-made}
 use Rattle.opening.specs.Openings.{openPlan}
 use Rattle.opening.proofs.Answers.{plan-modest}
-use Rattle.demands.specs.ByPlan.{StepByStep, carriedOut, Mapped, ByPlan}
+use Rattle.demands.specs.ByPlan.{stepsOf, StepByStep, carriedOut, Mapped, ByPlan}
 
 module _ (d : Decided) (pool : List ℕ) (few : length (d .stores) ≤ 21) (inside : Words (λ w. w < length pool) (d .stores)) where
+  steps-made : (n : ℕ) → n ≤ length (d .stores) → stepsOf n (plannedOf d .plan) pool ≡ after 0 (made (take n (d .stores)) pool)
+  unfolding stepsOf made
+  steps-made zero h = refl
+  steps-made (suc n) h =
+      rw (steps-made n (omega arith), ← add-one n) (step-after (d .stores) (d .effect) few pool inside n h)
+
   steps : {p : Planned} → p ≡ plannedOf d → StepByStep pool (d .stores) p
-  steps e n = rw e (run-made (d .stores) (d .effect) few pool inside n)
+  steps e = rw e (refl, steps-made)
 
   -- all steps and the finish leave what a whole call leaves, of a refusal too
   pub carried-whole : ((d .number ≡ 0 → ⊥) → d ≡ refused (d .number)) → (map : List ℕ) → carriedOut (plannedOf d) pool map ≡ wholeOf d pool map
-  unfolding stepsFrom
+  unfolding stepsOf
   carried-whole f map = go (same? (d .number) 0)
     where
       go : Same? (d .number) 0 → carriedOut (plannedOf d) pool map ≡ wholeOf d pool map
-      go (same e q) = rw (q, run-whole (d .stores) (d .effect) few pool inside (length (d .stores)) (omega arith), e)
+      go (same e q) = rw (q, steps-made (length (d .stores)) (omega arith), take-all (length (d .stores)) (d .stores) (omega arith), e)
       go (other h q) = ap (λ (x : Decided). carriedOut (plannedOf x) pool map) (f h) ∙ rw q
 
 pub put-carried : (pool map : List ℕ) (k v : ℕ) → carriedOut (plannedOf (putPlan pool map k v)) pool map ≡ putOf pool map k v

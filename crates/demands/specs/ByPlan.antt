@@ -2,14 +2,15 @@
 -- Assumes nothing.
 use mathlib.Core.Path.{_≡_}
 use mathlib.Core.List.{List}
-use Prim.Native.Nat.{ℕ, _-_, min}
+use Prim.Native.Nat.{ℕ, zero, suc, _-_, _≤_}
 use lib.ListN.{length, take}
 use Rattle.pool.specs.Sizes.{capacityOf, bytesOf}
 use Rattle.pool.specs.Places.{wordAt}
 use Rattle.pool.specs.Refs.{refOf}
 use Rattle.pool.specs.declared.Size.the-variants.{Holds}
 use Rattle.tree.specs.Stores.{Store}
-use Rattle.plan.specs.Plans.{made, After, ran, runOf}
+use Rattle.plan.specs.Plans.{made, After, after, stepOf}
+use Rattle.plan.specs.declared.Plan.{Plan}
 use Rattle.plan.specs.declared.Planned.{Planned}
 use Rattle.finishing.specs.Finishes.{finishOf, FinishGives}
 use Rattle.rules.specs.Counts.{putCount, deleteCount}
@@ -18,14 +19,20 @@ use Rattle.rules.specs.Deletes.{deletePlan, PlanDeleteGives}
 use Rattle.writing.specs.Calls.{Left, left, done, PutGives, DeleteGives}
 use Rattle.opening.specs.Openings.{openPlan, PlanOpenGives}
 
--- n steps of a plan make its first n stores, each giving 0, and there are no further ones
+-- the first n steps of a plan, each on what the one before it left
+unfoldable pub stepsOf : ℕ → Plan → List ℕ → After
+stepsOf zero p pool = after 0 pool
+stepsOf (suc n) p pool = stepOf p n (stepsOf n p pool .left)
+
+-- n steps of a plan make its first n stores, each giving 0, and it counts as many as there are
 abbrev pub StepByStep : List ℕ → List Store → Planned → Type 0
-StepByStep pool stores p = (n : ℕ) → runOf n (p .plan) pool ≡ ran (min n (length stores)) (made (take n stores) pool)
+StepByStep pool stores p =
+    (p .plan .count ≡ length stores) × ((n : ℕ) → n ≤ length stores → stepsOf n (p .plan) pool ≡ after 0 (made (take n stores) pool))
 
 -- a plan carried out: all its steps in order, then the finish; the number is the planning call's
 abbrev pub carriedOut : Planned → List ℕ → List ℕ → Left
 carriedOut p pool map =
-    left (done (p .number) (runOf (p .plan .count) (p .plan) pool .steps)) (runOf (p .plan .count) (p .plan) pool .left) (finishOf (p .plan .effect) map .left)
+    left (done (p .number) (p .plan .count)) (stepsOf (p .plan .count) (p .plan) pool .left) (finishOf (p .plan .effect) map .left)
 
 -- a map of the pool's length, which plan_delete is not lent and delete is
 abbrev pub Mapped : List ℕ → List ℕ → Type 0

@@ -134,12 +134,12 @@ fn mend_node(pool: &mut [u64], n: usize, map: &[u8], j: usize) -> usize
     let Fresh::Header(word) = fresh_header(pool, n, marked_depth(map, n, j), j) else {
         return 0;
     };
-    let mended = Plan::one(pool::node_word(n, j), word, Effect::Nothing);
-    plan::step(pool, mended, 0);
-    1
+    let words = [pool::node_word(n, j)];
+    let values = [word];
+    plan::make(pool, &words, &values, 1)
 }
 
-// Mends every stale header, lower-numbered nodes first, one step each.
+// Mends every stale header, lower-numbered nodes first, one store each.
 fn mend(pool: &mut [u64], n: usize, map: &[u8]) -> usize
     requires { ⌜ Sized (now pool) n × (length (now map) ≡ bytesOf n) ⌝ }
     ensures { λ r. ⌜ mends (now (pool .exit)) r ≡ mended n (now (map .entry)) (n - 1) (now (pool .entry)) ⌝ }

@@ -11,7 +11,9 @@ ghost use Rattle.opening.specs.Openings.{PlanOpenGives, opened, left as leftOpe
 ghost use Rattle.handing.specs.Plans.{planIn, FinishInGives, planned, HandedOut};
 use finding::Found;
 use handing::hand_out;
+use handing::lay_plan;
 use handing::taken_in;
+use plan::Plan;
 
 #[no_mangle]
 pub extern "C" fn wort_format(pool: &mut [u64], map: &mut [u8], n: u64) -> u64
@@ -114,8 +116,12 @@ pub extern "C" fn wort_plan_put(
 ) -> u64
     ensures { λ r. ⌜ HandedOut (PlanPutGives (now (pool .entry)) (now (map .entry)) key value) (planned r (now (plan .exit))) ⌝ }
 {
-    let p = planning::plan_put(pool, map, key, value);
-    hand_out(plan, p)
+    let mut words = [0usize; Plan::MOST];
+    let mut values = [0u64; Plan::MOST];
+    let laid = planning::lay_put(&mut words, &mut values, pool, map, key, value);
+    let effect = laid.effect;
+    lay_plan(plan, laid.count, effect, &words, &values);
+    laid.number
 }
 
 #[no_mangle]
