@@ -18,7 +18,8 @@ is the sum of the rows above it), or a text "`path`: N lines", "N files" or "N e
 "proofs" count the lines below the path's folders specs, src and proofs.
 
 In docs/AUDIT.md, the table of files below "What a reader must believe" has to list just the files that the statements of
-crates/demands and the contracts of the C interface, crates/wort and crates/handing, reach through their `use` lines, and the table below "What a reader need not believe" the others.
+crates/demands and the contracts of the C interface, crates/wort, reach through their `use` lines, and the table below "What a
+reader need not believe" the others.
 Mistakes.antt in crates/demands promises nothing and is no statement.
 
 The counting rule. A line counts unless it is blank, only a comment (-- or // or #), or a `use`, `ghost use` or `mod` line; files are
@@ -37,13 +38,13 @@ COMMANDS = {"rt", "gcc", "cargo", "python3", "make"}
 OTHERS = set(
     "let else match requires ensures use ghost pub mod struct enum array u64 u8 usize leading_zeros specs src proofs declared"
     " unicodedata NFC BTreeMap LMDB JudyL NOSYNC WRITEMAP libwort passed failed logic proved number stdin stdout SEED COUNT MOST"
-    " WORT_LIB_DIR WORT_LIB_NAME FILE DIR release bin long exhaust staticlib"
+    " WORT_LIB_DIR WORT_LIB_NAME FILE DIR release bin long exhaust staticlib can-fail by-plan memcpy memset"
     " length take drop getD set replicate".split()  # the toolchain's lists
 )
 NAME = re.compile(r"[^\W\d][\w′₀-₉'≤≥<>≡-]*", re.U)
 DEFINED = re.compile(r"^\s*(?:\|\s*)?(?:(?:unfoldable|abbrev|pub|record|data|module|mod)\s+)*([^\W\d][^\s:(){}.;,]*)\s*(?:\{[^}]*\}\s*)*(?:[:({]|where)", re.U)
 DECLARED = re.compile(r"\b(?:fn|struct|enum|const|type|mod)\s+(\w+)|^\s*(?:pub\s+)?(\w+)(?::|\(|,|\s*\{)", re.M)
-USED = re.compile(r"^use Rattle·(\w+?)(?:·specs)?\.specs\.(\w+)", re.M)
+USED = re.compile(r"^(?:ghost )?use Rattle·(\w+?)(?:·specs)?\.specs\.(\w+)", re.M)
 FOLDERS = {"definitions": "specs", "code": "src", "proofs": "proofs"}
 COUNTED = {"lines", "files", "edits", *FOLDERS}
 COUNT = re.compile(r"`([^`\s]+)`: ([\d,]+) (lines|files|edits)")
@@ -85,15 +86,20 @@ def known_names():
 
 
 def definitions():
-    """The files of definitions that the statements reach, and the others."""
+    """The files of definitions that the statements and the C interface reach, and the others."""
     crates = ROOT / "crates"
+
+    def uses(file):
+        return [crates / c / "specs" / f"{m}.antt" for c, m in USED.findall(file.read_text()) if m != "declared"]
+
     everything = {f for f in crates.glob("*/specs/*.antt") if f.name != "Lib.antt"}
-    reached, ahead = set(), [f for f in everything if f.parent.parent.name in ("demands", "wort", "handing") and f.name != "Mistakes.antt"]
+    reached, ahead = set(), [f for f in everything if f.parent.parent.name in ("demands", "wort") and f.name != "Mistakes.antt"]
+    ahead += [f for source in crates.glob("wort/src/*.rt") for f in uses(source)]
     while ahead:
         file = ahead.pop()
         if file not in reached:
             reached.add(file)
-            ahead += [crates / c / "specs" / f"{m}.antt" for c, m in USED.findall(file.read_text()) if m != "declared"]
+            ahead += uses(file)
     return reached, everything - reached
 
 

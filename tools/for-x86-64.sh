@@ -9,19 +9,12 @@ made=$root/build/x86-64
 python=libpython3.11
 packages="gcc-x86-64-linux-gnu libc6-dev-amd64-cross qemu-user rustc-web libstd-rust-web-dev:amd64 $python:amd64"
 
-fail() {
-    echo "The library is for x86-64, and its tests need these packages of Debian 12 on this processor: $packages. $1" >&2
-    exit 1
-}
-
 mkdir -p "$made"
 # shellcheck disable=SC2086 # the packages are many words
-if ! dpkg -s $packages >/dev/null 2>&1; then
-    [ "$(id -u)" = 0 ] || fail "Install them (dpkg --add-architecture amd64; apt-get update; apt-get install), or run this as root."
-    { dpkg --add-architecture amd64 && apt-get update && apt-get install -y --no-remove --no-install-recommends $packages; } >"$made/apt.log" 2>&1 ||
-        fail "apt-get could not install them: see $made/apt.log."
-fi
+"$root/tools/packages.sh" "The library is for x86-64, and its tests need" $packages
 ln -sf "$(command -v x86_64-linux-gnu-gcc)" "$made/gcc"
+# What Debian's libm.a for this compiler means: it names a file of x86-64's own package. A static program is linked with it.
+ln -sf "$("$made/gcc" -print-file-name=libm-2.36.a)" "$made/libm.a"
 echo 'int Py_BytesMain(int, char **); int main(int count, char **words) { return Py_BytesMain(count, words); }' |
     "$made/gcc" -x c - -x none "/usr/lib/x86_64-linux-gnu/$python.so.1.0" -o "$made/python"
 printf '#!/bin/sh\nexec "%s/tools/x86-64.sh" "%s/python" "$@"\n' "$root" "$made" >"$made/python3"

@@ -27,8 +27,9 @@ part "crates listed"
 tools/listed.sh
 part "documents"
 tools/docs-check.py
-part "claims"
+part "claims, and mistakes that they refuse"
 tools/claims.sh
+tools/claims-test.sh
 part "proofs, must-fail edits and programs"
 status=0
 rt ci 2>&1 | tee build/ci.log || status=$?
@@ -41,6 +42,12 @@ if ! rt staticlib wort || ! (cd host && ../tools/for-x86-64.sh cargo test --rele
     echo "The library and the model differ, or the tests do not build: see above." >&2
     exit 1
 fi
+part "the stack of each call, as compiled"
+tools/stack.py --check docs/AUDIT.md
+tools/stack.py --below 1024 wort_lookup wort_put wort_delete wort_plan_put wort_plan_delete wort_step wort_finish
+part "stores at the machine"
+tools/stores.sh
+tools/stores.sh --can-fail
 part "pictures and the walk-through, as the library does it"
 tools/for-x86-64.sh tools/pictures.py --check
 part ""

@@ -10,8 +10,10 @@ pub mod library;
 pub mod model;
 pub mod names;
 pub mod pools;
+pub mod stepped;
 pub mod table;
 pub mod watch;
+pub mod whole;
 
 pub use answers::{Calls, Plan};
 pub use library::Library;

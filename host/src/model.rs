@@ -211,7 +211,8 @@ impl Effect {
     }
 }
 
-type Store = (usize, u64);
+/// A word number and the value that it takes.
+pub type Store = (usize, u64);
 
 fn plan_of(stores: &[Store], effect: Effect) -> Plan {
     assert!(stores.len() <= MOST_STORES);

@@ -10,10 +10,11 @@ use Rattle.pool.specs.Sizes.{sizeOf, capacityOf}
 use Rattle.pool.specs.Refs.{refOf}
 use Rattle.walk.specs.Walks.{headOf, walkFrom, lowestFrom}
 use Rattle.plan.specs.Plans.{made}
+use Rattle.finding.specs.Lookups.{lookupOf}
 use Rattle.rules.specs.Puts.{putPlan}
 use Rattle.writing.specs.Calls.{putOf, formatOf}
 use Rattle.demands.specs.Cases.{every, cases}
 
 pub cases-hold : every cases ≡ true
-unfolding cases scan tally firstDiffIn storedIn headerIn block tab sizeOf capacityOf refOf headOf walkFrom lowestFrom made putPlan putOf formatOf
+unfolding cases scan tally firstDiffIn storedIn headerIn block tab sizeOf capacityOf refOf headOf walkFrom lowestFrom made lookupOf putPlan putOf formatOf
 cases-hold = refl

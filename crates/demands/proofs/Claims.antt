@@ -2,22 +2,33 @@
 -- its text (tools/claims.sh). Assumes nothing.
 use Rattle.demands.specs.Claims.{Claims}
 use Rattle.demands.proofs.Demand1.{demand1}
+use Rattle.demands.proofs.Causes.{causes}
 use Rattle.demands.proofs.Demand2.{demand2-holds}
-use Rattle.demands.proofs.Demand3.{demand3-in-order, demand3-loosely}
+use Rattle.demands.proofs.Demand3.{demand3-in-order, demand3-loosely, begins}
 use Rattle.demands.proofs.Stales.{one-stale-in-order, one-stale-loosely}
+use Rattle.demands.proofs.Question.{listed-iff-openable}
+use Rattle.demands.proofs.ByPlan.{by-plan}
+use Rattle.demands.proofs.FromC.{returns}
 use Rattle.demands.proofs.Opening.{opens}
 use Rattle.demands.proofs.Unique.{unique}
 use Rattle.demands.proofs.Cases.{cases-hold}
+use Rattle.demands.proofs.StoreLists.{store-lists-hold}
 
 pub claims : Claims
 claims = record {
   demand1 = demand1;
+  causes = causes;
   demand2 = demand2-holds;
   demand3 = demand3-in-order;
   one-stale = one-stale-in-order;
   demand3-more = demand3-loosely;
   one-stale-more = one-stale-loosely;
+  question = listed-iff-openable;
+  begins = begins;
+  by-plan = by-plan;
+  from-c = returns;
   opening = opens;
   one-outcome = unique;
   examples = cases-hold;
+  store-lists = store-lists-hold;
 }

@@ -4,8 +4,9 @@ use mathlib.Core.Path.{_≡_, refl, ap, _∙_, subst}
 use mathlib.Core.Bool.{Bool}
 use mathlib.Core.Option.{Option, none, some}
 use mathlib.Core.List.{List, _∷_}
-use Prim.Native.Nat.{ℕ, _-_, _<_}
+use Prim.Native.Nat.{ℕ, _*_, _-_, _<_}
 use native.Mathlib.Omega.{arith}
+use borrow.Author.Tests.{le-ltb, eq-eqb}
 use lib.ListN.{length, set, replicate, length-set, length-append, length-replicate, getD-replicate}
 use lib.Seq.{getD-set-same, getD-set-other}
 use Rattle.pool.specs.Sizes.{sizeOf, bytesOf, Sized, Measured}
@@ -24,10 +25,10 @@ use Rattle.writing.proofs.Wholes.{size-same}
 use Rattle.opening.specs.Openings.{Left, openOf, openSteps}
 use Rattle.opening.proofs.HeldOpens.{steps-pool, open-is, all-mended, reached-marked}
 use Rattle.demands.specs.Tables.{Table, blank}
-use Rattle.demands.specs.Demand3.{Op, Cut, planned, InOrder, Loosely, Reach, fresh, done, refused, cut, lost, reopening, opened, Demand3}
+use Rattle.demands.specs.Demand3.{Op, Cut, planned, InOrder, Loosely, Reach, fresh, done, stepped, refused, cut, lost, reopening, opened, Demand3, Begins}
 use Rattle.demands.proofs.States.{State}
 use Rattle.demands.proofs.Readings.{state-reads, state-reading, state-capacity}
-use Rattle.demands.proofs.Operations.{turns, done-state, refused-state, cut-state, in-order-loosely}
+use Rattle.demands.proofs.Operations.{turns, done-state, stepped-state, refused-state, cut-state, in-order-loosely}
 
 -- ---- a freshly formatted pool
 -- its root is empty
@@ -72,6 +73,12 @@ fresh-state n pool map z = go (sizeOf (length pool) n) refl (size-fits pool n) z
             (blank-state m pool map sized b))
         mapped (other b q) = absurd (omega (arith, rw q at z))
     go Wrong e sized z = absurd (omega (arith, z))
+
+-- every capacity has one
+pub begins : Begins
+unfolding formatOf sizeOf
+begins n pool map one most words bytes f e =
+    rw (e, le-ltb n 1 one, le-ltb 1024 n most, eq-eqb (length pool) (19 * n - 15) words, eq-eqb (length map) (2 * n - 1) bytes)
 
 -- ---- a map that is lost, and openings
 module _ {n : ℕ} {pool : List ℕ} {T : Table} where
@@ -122,6 +129,7 @@ module _ (C : Cut) (within : (o : Op) (σ τ : List Store) (b : Bool) → 0 < le
   pub reach-state : {n : ℕ} {pool : List ℕ} {map : Option (List ℕ)} {T : Table} → Reach C n pool map T → State n pool map T
   reach-state {n = n} (fresh pool map z) = fresh-state n pool map z
   reach-state (done o r z) = done-state (reach-state r) o z
+  reach-state (stepped o r z) = stepped-state (reach-state r) o z
   reach-state (refused o r z) = refused-state (reach-state r) o z
   reach-state (cut {pool = pool} {map = map} o {τ = τ} {b = b} r z c) =
       let S = reach-state r in cut-state S o z (within o (planned o pool map .stores) τ b (stores-some S o z) c)

@@ -1,7 +1,7 @@
 -- An opening answers 0 just on sound pools, and leaves a straight one with the same table, an exact map, and nothing to store.
 -- Rests on what a survey sees, and on openings of a pool that holds a tree. Assumes nothing.
 use mathlib.Core.Path.{_≡_, sym, ap, _∙_, subst}
-use mathlib.Core.Option.{Option}
+use mathlib.Core.Option.{Option, none}
 use mathlib.Core.List.{List, map}
 use Prim.Native.Nat.{ℕ, _+_, _-_, _≤_}
 use native.Mathlib.Omega.{arith}
@@ -21,11 +21,13 @@ use Rattle.survey.proofs.SoundTree.{sound-held}
 use Rattle.survey.proofs.SoundHeld.{held-is-sound, sound-capacity, straight-if, sound-holds}
 use Rattle.opening.specs.Openings.{Left, reached}
 use Rattle.opening.proofs.Answers.{Leaves, size, damage, done, open-leaves}
+use Rattle.opening.proofs.Openings.{bytes-flat}
 use Rattle.opening.proofs.HeldMends.{M}
 use Rattle.opening.proofs.HeldOpens.{Pool, capacity-is, end, all-mended, none-left, reached-marked, open-is}
-use Rattle.demands.specs.Tables.{Table, Reads, Exact}
+use Rattle.demands.specs.Tables.{Table, Names, Reads, Exact}
 use Rattle.demands.specs.Opening.{Restored, Opens}
-use Rattle.demands.proofs.Readings.{marked-exact, pool-is, finds-one}
+use Rattle.demands.proofs.States.{State}
+use Rattle.demands.proofs.Readings.{marked-exact, rows-leaves, pool-is, finds-one}
 
 module _ (pool : List ℕ) (n : ℕ) (pos : 1 ≤ n) (cap : n ≤ 1024) (t : Tree ℕ) (P : Pool n pos cap t pool) where
   -- the pool after an opening
@@ -64,7 +66,19 @@ module _ (pool : List ℕ) (n : ℕ) (pos : 1 ≤ n) (cap : n ≤ 1024) (t : Tre
         ∙ r .listing from ks vs a b;
   }
 
+  read-state : (T : Table) → Names T → Reads pool T → State n pool none T
+  read-state T ok r = record {
+    pos = pos;
+    cap = cap;
+    t = t;
+    holds = P;
+    table = λ k. finds-one (T k) (find dig k t) (lookupOf pool k) (r .lookup k) (lookup-held pool n t fits (P .held) k);
+    names = ok;
+    marks = λ b e. let z : _≡_ {A = ℕ} 0 1 = cc in absurd (omega arith);
+  }
+
   restored : (bytes : List ℕ) → length bytes ≡ bytesOf n → Restored pool bytes
+  unfolding read-state
   restored bytes e =
       let s : Sound pool = held-is-sound pool n t fits (P .held) in
       let o = open-is n pos cap t pool P bytes e in
@@ -74,6 +88,10 @@ module _ (pool : List ℕ) (n : ℕ) (pos : 1 ≤ n) (cap : n ≤ 1024) (t : Tre
         exact = rw o (subst (λ (m : ℕ). Exact mended m (map reached (M n pos cap t))) (sym (sound-capacity pool n s fits))
             (marked-exact mended (map reached (M n pos cap t)) n t (P′ .held) (reached-marked n pos cap t pool P)));
         same = λ T r. rw o (mended-reads T r);
+        bits = rw o (bytes-flat (M n pos cap t));
+        steps = rw o (sym (all-mended n pos cap t pool P .steps));
+        each = rw o (all-mended n pos cap t pool P .each);
+        keys = λ T ok r. rw o (sym (rows-leaves (read-state T ok r) r));
         again = rw o (none-left n pos cap t pool P);
       }
 

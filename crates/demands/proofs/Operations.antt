@@ -12,6 +12,8 @@ use lib.ListN.{length, take, length-append}
 use lib.Seq.{take-append-le, take-all, take-take}
 use Rattle.digits.specs.Choice.{pick}
 use Rattle.pool.specs.Sizes.{bytesOf}
+use Rattle.pool.specs.declared.Size.{Size}
+use Rattle.pool.specs.declared.Size.the-variants.{Holds}
 use Rattle.tree.specs.Tree.{Tree, mult, find}
 use Rattle.tree.specs.Changes.{occurs, Adds, Removes}
 use Rattle.tree.specs.Stores.{Store, run, Part, done, made as kept, lost}
@@ -33,7 +35,9 @@ use Rattle.rules.proofs.Fits.{put-inside, put-named, delete-inside, delete-name
 use Rattle.rules.proofs.HeldPuts.{PutIs, full, does, put-is}
 use Rattle.rules.proofs.HeldDeletes.{DeleteIs, absent, does as deletes, delete-is}
 use Rattle.demands.specs.Tables.{Table, given, without, Names}
-use Rattle.demands.specs.Demand3.{Op, put, delete, planned, whole, effect, Loosely, put-before, put-whole, delete-before, delete-since, InOrder, first}
+use Rattle.demands.specs.Demand3.{Op, put, delete, planned, whole, byPlan, effect}
+use Rattle.demands.specs.Demand3.{Loosely, put-before, put-whole, delete-before, delete-since, InOrder, first}
+use Rattle.demands.proofs.ByPlan.{put-carried, delete-carried}
 use Rattle.demands.proofs.States.{State, fits, tree-names, stored, finish-marks}
 
 -- ---- parts
@@ -186,6 +190,14 @@ module _ {n : ℕ} {pool bytes : List ℕ} {T : Table} (S : State n pool (some b
       → whole o pool bytes ≡ record { done = record { number = planned o pool bytes .number; stores = 0 }; pool = pool; map = bytes }
   whole-refused o z = whole-is o ∙ rw (ne-eqb (planned o pool bytes .number) 0 z)
 
+  -- the same by its plan
+  pub by-plan-whole : (o : Op) → byPlan o pool bytes ≡ whole o pool bytes
+  by-plan-whole (put k v h) = put-carried pool bytes k v
+  by-plan-whole (delete k h) = delete-carried pool bytes k (λ m e. M .size ∙ ap bytesOf (holds-same (sym (fits S) ∙ e)))
+    where
+      holds-same : {i j : ℕ} → _≡_ {A = Size} (Holds i) (Holds j) → i ≡ j
+      holds-same e = cc
+
   -- all stores made and the map finished: the changed table
   made-state : (o : Op) → planned o pool bytes .number ≡ 0
       → State n (made (planned o pool bytes .stores) pool) (some (finishOf (planned o pool bytes .effect) bytes .left)) (effect o T)
@@ -210,6 +222,10 @@ module _ {n : ℕ} {pool bytes : List ℕ} {T : Table} (S : State n pool (some b
   done-state o z =
       let p : planned o pool bytes .number ≡ 0 = sym (whole-number o) ∙ z in
       rw (whole-done o p) (made-state o p)
+
+  pub stepped-state : (o : Op) → planned o pool bytes .number ≡ 0 → State n (byPlan o pool bytes .pool) (some (byPlan o pool bytes .map)) (effect o T)
+  stepped-state o p =
+      subst (λ (l : Left). State n (l .pool) (some (l .map)) (effect o T)) (sym (by-plan-whole o)) (done-state o (whole-number o ∙ p))
 
   pub refused-state : (o : Op) → (whole o pool bytes .done .number ≡ 0 → ⊥) → State n (whole o pool bytes .pool) (some (whole o pool bytes .map)) T
   refused-state o z = rw (whole-refused o (λ p. z (whole-number o ∙ p))) S

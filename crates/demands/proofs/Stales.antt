@@ -29,13 +29,15 @@ use Rattle.held.specs.Ways.{mem}
 use Rattle.survey.specs.Soundness.{at, Reached, root, child, Stale, Straight}
 use Rattle.survey.proofs.SoundHeld.{sound-capacity}
 use Rattle.survey.proofs.Stales.{none-stale, one-stale, straight-tree}
-use Rattle.writing.specs.Calls.{formatOf, formatIn}
+use Rattle.writing.specs.Calls.{Left, formatOf, formatIn}
 use Rattle.opening.specs.Openings.{openOf, openSteps}
 use Rattle.opening.proofs.HeldOpens.{steps-pool, steps-stale}
 use Rattle.demands.specs.Tables.{Table}
-use Rattle.demands.specs.Demand3.{Op, Cut, planned, whole, InOrder, Loosely, Reach, fresh, done, refused, cut, lost, reopening, opened, AtMostOneStale}
+use Rattle.demands.specs.Demand3.{Op, Cut, planned, whole, InOrder, Loosely, AtMostOneStale}
+use Rattle.demands.specs.Demand3.{Reach, fresh, done, stepped, refused, cut, lost, reopening, opened}
 use Rattle.demands.proofs.States.{State, fits, stored}
-use Rattle.demands.proofs.Operations.{part-first, part-both, Turns, turns, whole-number, whole-done, whole-refused, cut-case, in-order-loosely}
+use Rattle.demands.proofs.Operations.{part-first, part-both, Turns, turns, cut-case, in-order-loosely}
+use Rattle.demands.proofs.Operations.{whole-number, by-plan-whole, whole-done, whole-refused}
 use Rattle.demands.proofs.Opening.{opens}
 use Rattle.demands.proofs.Demand3.{root-blank, open-state, stores-some, reach-state, demand3-of}
 
@@ -138,6 +140,11 @@ module _ (C : Cut) (within : (o : Op) (σ τ : List Store) (b : Bool) → 0 < le
       let S = reach-state C within r in
       let p : planned o pool map .number ≡ 0 = sym (whole-number S o) ∙ z in
       all-fresh n _ _ (rw (whole-done S o p) (made-none S (reach-stales r .none-there map refl) o p))
+  reach-stales {n = n} (stepped {pool = pool} {map = map} o r z) =
+      let S = reach-state C within r in
+      all-fresh n _ _
+      (subst (λ (l : Left). (j : ℕ) → Stale (l .pool) n j → ⊥) (sym (by-plan-whole S o ∙ whole-done S o z))
+      (made-none S (reach-stales r .none-there map refl) o z))
   reach-stales {n = n} (refused {map = map} o r z) =
       let S = reach-state C within r in
       all-fresh n _ _ (rw (whole-refused S o (λ p. z (whole-number S o ∙ p))) (reach-stales r .none-there map refl))

@@ -1,23 +1,56 @@
--- Each public call's promise leaves one outcome: the law of each crate, in one place. Assumes nothing.
-use Rattle.plan.proofs.Laws.{step-unique}
-use Rattle.finishing.proofs.Laws.{finish-unique}
-use Rattle.finding.proofs.Answers.{lookup-unique}
-use Rattle.listing.proofs.Answers.{list-unique}
-use Rattle.writing.proofs.Wholes.{put-unique, plan-put-unique, delete-unique, plan-delete-unique, format-unique}
-use Rattle.opening.proofs.Answers.{plan-unique, open-unique}
-use Rattle.demands.specs.Unique.{Unique}
+-- Each public call's promise leaves one outcome: it is an equation with what a definition gives. Assumes nothing.
+use mathlib.Core.Path.{_≡_, refl, sym, ap, _∙_}
+use mathlib.Core.Bool.{Bool, true, false}
+use lib.Dec.{eqb}
+use Rattle.digits.specs.Choice.{pick}
+use Rattle.plan.specs.declared.Planned.{Planned}
+use Rattle.finding.proofs.Answers.{told-injective}
+use Rattle.listing.specs.Listings.{Told, numbers}
+use Rattle.listing.specs.declared.Listed.{Listed}
+use Rattle.handing.specs.Plans.{plannedIn, HandedOut}
+use Rattle.demands.specs.Unique.{OneOutcome, Unique}
+
+equation : {A : Type 0} (x : A) → OneOutcome (λ a. a ≡ x) x
+equation x = record { met = refl; one = λ a b p q. p ∙ sym q }
+
+-- the case of a listing's answer that its numbers tell
+abbrev untold : Told → Listed
+untold t = record { number = t .number; count = t .count; more = eqb (t .more) 1 }
+
+untold-numbers : (a : Listed) → untold (numbers a) ≡ a
+untold-numbers a = ap (λ (m : Bool). record { number = a .number; count = a .count; more = m }) (back (a .more))
+  where
+    back : (m : Bool) → eqb (pick m 1 0) 1 ≡ m
+    back true = refl
+    back false = refl
+
+further-one : (a b : Listed) → numbers a ≡ numbers b → a ≡ b
+further-one a b e = sym (untold-numbers a) ∙ ap untold e ∙ untold-numbers b
+
+handed-one : (Gives : Planned → Type 0) (p : Planned) → OneOutcome Gives p → OneOutcome (HandedOut Gives) (plannedIn p)
+handed-one Gives p o = record {
+  met = (p, o .met, refl);
+  one = λ l m a b. a .2 ∙ ap plannedIn (o .one (a .0) (b .0) (a .1) (b .1)) ∙ sym (b .2);
+}
 
 pub unique : Unique
 unique = record {
-  lookup = lookup-unique;
-  list = λ pool from ks vs r r′ a a′ b b′. list-unique pool from ks vs;
-  plan-put = λ pool map k v r r′. plan-put-unique pool map k v;
-  plan-delete = λ pool k r r′. plan-delete-unique pool k;
-  plan-open = λ pool r r′. plan-unique pool;
-  step = λ p at pool r r′ l l′. step-unique p at pool;
-  finish = λ p map r r′ l l′. finish-unique (p .effect) map;
-  put = λ pool map k v r r′ p p′ m m′. put-unique pool map k v;
-  delete = λ pool map k r r′ p p′ m m′. delete-unique pool map k;
-  format = λ pool map n r r′ p p′ m m′. format-unique pool map n;
-  opening = λ pool map r r′ p p′ m m′. open-unique pool map;
+  lookup = λ pool k. equation _;
+  list = λ pool from ks vs. equation _;
+  plan-put = λ pool map k v. equation _;
+  plan-delete = λ pool k. equation _;
+  plan-open = λ pool. equation _;
+  step = λ p at pool. equation _;
+  run = λ most p pool. equation _;
+  finish = λ p map. equation _;
+  put = λ pool map k v. equation _;
+  delete = λ pool map k. equation _;
+  format = λ pool map n. equation _;
+  opening = λ pool map. equation _;
+  found = told-injective;
+  further = further-one;
+  plan-put-words = λ pool map k v. handed-one _ _ (equation _);
+  plan-delete-words = λ pool k. handed-one _ _ (equation _);
+  plan-open-words = λ pool. handed-one _ _ (equation _);
+  finish-words = λ words map. equation _;
 }

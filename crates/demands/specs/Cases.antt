@@ -1,19 +1,14 @@
--- The cases that document 01 marks (p), as one table of tests over the definitions.
+-- The cases that document 01 marks (p), as one table of tests over the definitions; sizes and references are tested through the calls.
 -- Assumes nothing.
 use mathlib.Core.Bool.{Bool, true, false}
 use mathlib.Core.List.{List, [], _∷_}
-use Prim.Native.Nat.{ℕ}
+use Prim.Native.Nat.{ℕ, _-_}
 use lib.Dec.{eqb}
 use lib.ListN.{replicate}
 use Rattle.digits.specs.Choice.{pick}
 use Rattle.digits.specs.Digits.{digitOf, firstDiff}
-use Rattle.pool.specs.Sizes.{sizeOf}
 use Rattle.pool.specs.Places.{wordAt}
-use Rattle.pool.specs.Refs.{refOf}
-use Rattle.pool.specs.declared.Size.{Size}
-use Rattle.pool.specs.declared.Size.the-variants.{Holds, Wrong}
-use Rattle.pool.specs.declared.Ref.{Ref}
-use Rattle.pool.specs.declared.Ref.the-variants.{Empty, Leaf, Node, Bad}
+use Rattle.finding.specs.Lookups.{Answer, lookupOf}
 use Rattle.writing.specs.Calls.{Left, putOf, formatOf}
 
 abbrev pub both : Bool → Bool → Bool
@@ -23,22 +18,19 @@ abbrev pub every : List Bool → Bool
 every [] = true
 every (t ∷ ts) = both t (every ts)
 
-abbrev isNode : ℕ → Ref → Bool
-isNode j Empty = false
-isNode j (Leaf i) = false
-isNode j (Node i) = eqb i j
-isNode j Bad = false
+-- the number that format gives for n leaves in so many words and bytes, and lookup and put in so many words of which word 0 is n
+abbrev formats : ℕ → ℕ → ℕ → ℕ
+formats words bytes n = formatOf (replicate words 0) (replicate bytes 0) n .number
 
-abbrev isDamage : Ref → Bool
-isDamage Empty = false
-isDamage (Leaf i) = false
-isDamage (Node i) = false
-isDamage Bad = true
+abbrev looks : ℕ → ℕ → ℕ
+looks words n = lookupOf (n ∷ replicate (words - 1) 0) 7 .number
 
--- the number that a size gives: 0, or 1 for a wrong one
-abbrev sizeNumber : Size → ℕ
-sizeNumber (Holds n) = 0
-sizeNumber Wrong = 1
+abbrev puts : ℕ → ℕ → ℕ → ℕ
+puts words bytes n = putOf (n ∷ replicate (words - 1) 0) (replicate bytes 0) 7 1 .done .number
+
+-- what lookup says in a pool of two leaves whose root is r, and in which all else is 0
+abbrev rooted : ℕ → Answer
+rooted r = lookupOf (2 ∷ r ∷ replicate 21 0) 7
 
 -- a fresh pool of n leaves in so many words, and the same after puts
 abbrev pub fresh : ℕ → ℕ → ℕ → Left
@@ -71,14 +63,27 @@ cases =
     -- "Keys 0 and all ones only: header 0."
     ∷ eqb (rootHeader 0 0xffffffffffffffff) 0
     -- "N = 1: 4 words accepted, 5 refused with 1. N = 0 and 1025: 1."
-    ∷ eqb (sizeNumber (sizeOf 4 1)) 0
-    ∷ eqb (sizeNumber (sizeOf 5 1)) 1
-    ∷ eqb (sizeNumber (sizeOf 4 0)) 1
-    ∷ eqb (sizeNumber (sizeOf 19460 1025)) 1
-    -- "N = 2: reference 1025 is node 0; 1026 and 3 are damage."
-    ∷ isNode 0 (refOf 2 1025)
-    ∷ isDamage (refOf 2 1026)
-    ∷ isDamage (refOf 2 3)
+    ∷ eqb (formats 4 1 1) 0
+    ∷ eqb (looks 4 1) 3
+    ∷ eqb (puts 4 1 1) 0
+    ∷ eqb (formats 5 1 1) 1
+    ∷ eqb (looks 5 1) 1
+    ∷ eqb (puts 5 1 1) 1
+    ∷ eqb (formats 4 1 0) 1
+    ∷ eqb (looks 4 0) 1
+    ∷ eqb (puts 4 1 0) 1
+    ∷ eqb (formats 19460 2049 1025) 1
+    ∷ eqb (looks 19460 1025) 1
+    ∷ eqb (puts 19460 2049 1025) 1
+    -- "19,441 for N = 1024"
+    ∷ eqb (formats 19441 2047 1024) 0
+    ∷ eqb (looks 19441 1024) 3
+    ∷ eqb (puts 19441 2047 1024) 0
+    -- "N = 2: reference 1025 is node 0; 1026 and 3 are damage.": node 0 is passed, and its child is empty
+    ∷ eqb (rooted 1025 .number) 3
+    ∷ eqb (rooted 1025 .nodes) 1
+    ∷ eqb (rooted 1026 .number) 2
+    ∷ eqb (rooted 3 .number) 2
     -- "N = 1, one key held: put of that key 0, of another 4."
     ∷ eqb (putting 7 2 (putting 7 1 (fresh 1 4 1)) .done .number) 0
     ∷ eqb (putting 8 2 (putting 7 1 (fresh 1 4 1)) .done .number) 4

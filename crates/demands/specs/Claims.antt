@@ -3,20 +3,33 @@
 use mathlib.Core.Path.{_≡_}
 use mathlib.Core.Bool.{true}
 use Rattle.demands.specs.Demand1.{Demand1}
+use Rattle.demands.specs.Causes.{Causes}
 use Rattle.demands.specs.Demand2.{Demand2Holds}
-use Rattle.demands.specs.Demand3.{InOrder, Loosely, Demand3, AtMostOneStale}
+use Rattle.demands.specs.Demand3.{InOrder, Loosely, Demand3, Begins, AtMostOneStale}
+use Rattle.demands.specs.Question.{ListedIffOpenable}
+use Rattle.demands.specs.ByPlan.{ByPlan}
+use Rattle.demands.specs.FromC.{Returns}
 use Rattle.demands.specs.Opening.{Opens}
 use Rattle.demands.specs.Unique.{Unique}
 use Rattle.demands.specs.Cases.{every, cases}
+use Rattle.demands.specs.StoreLists.{storeLists}
 
 pub record Claims : Type 0 where
   pub demand1 : Demand1
+  -- "Wrong sizes, damage, an absent name, no room: each has its number": which number, exactly when
+  pub causes : Causes
   pub demand2 : Demand2Holds
   pub demand3 : Demand3 InOrder
   pub one-stale : AtMostOneStale InOrder
   -- more than the demand asks: only the store that counts keeps its place
   pub demand3-more : Demand3 Loosely
   pub one-stale-more : AtMostOneStale Loosely
+  -- "Is every name in the listing still openable, and is every openable name in the listing?"
+  pub question : ListedIffOpenable InOrder
+  pub begins : Begins
+  pub by-plan : ByPlan
+  pub from-c : Returns
   pub opening : Opens
   pub one-outcome : Unique
   pub examples : every cases ≡ true
+  pub store-lists : every storeLists ≡ true

@@ -7,28 +7,29 @@ use mathlib.Core.Path.{_≡_}
 use mathlib.Core.Bool.{Bool, true, false}
 use mathlib.Core.Option.{Option, none, some}
 use mathlib.Core.List.{List, [], _∷_}
-use Prim.Native.Nat.{ℕ, zero, suc, _-_, _≤_}
+use Prim.Native.Nat.{ℕ, zero, suc, _-_, _*_, _≤_}
 use lib.Dec.{eqb}
 use lib.ListN.{length, take}
 use Rattle.digits.specs.Choice.{pick}
 use Rattle.tree.specs.Stores.{Store, Part}
 use Rattle.pool.specs.Sizes.{bytesOf}
-use Rattle.plan.specs.Plans.{made, Decided}
+use Rattle.plan.specs.Plans.{made, Decided, plannedOf}
 use Rattle.rules.specs.Puts.{putPlan}
 use Rattle.rules.specs.Deletes.{deletePlan}
-use Rattle.writing.specs.Calls.{Left, putOf, deleteOf, formatOf}
+use Rattle.writing.specs.Calls.{Left, putOf, deleteOf, Formatted, formatOf, FormatGives}
 use Rattle.survey.specs.Soundness.{Stale}
 use Rattle.opening.specs.Openings.{openOf, openSteps}
 use Rattle.listing.specs.Rows.{Word}
 use Rattle.demands.specs.Tables.{Table, blank, given, without, Reads}
 use Rattle.demands.specs.Demand2.{Reading}
+use Rattle.demands.specs.ByPlan.{carriedOut}
 
 -- an operation: a put of a file number under a name, or a delete of a name
 pub data Op : Type 0 where
   put : (k v : ℕ) → Word k → Op
   delete : (k : ℕ) → Word k → Op
 
--- its plan, its whole call, and what it does to the plain table
+-- its plan, its whole call, the same carried out by its plan, and what it does to the plain table
 abbrev pub planned : Op → List ℕ → List ℕ → Decided
 planned (put k v h) pool map = putPlan pool map k v
 planned (delete k h) pool map = deletePlan pool k
@@ -36,6 +37,9 @@ planned (delete k h) pool map = deletePlan pool k
 abbrev pub whole : Op → List ℕ → List ℕ → Left
 whole (put k v h) pool map = putOf pool map k v
 whole (delete k h) pool map = deleteOf pool map k
+
+abbrev pub byPlan : Op → List ℕ → List ℕ → Left
+byPlan o pool map = carriedOut (plannedOf (planned o pool map)) pool map
 
 abbrev pub effect : Op → Table → Table
 effect (put k v h) T = given k v T
@@ -70,6 +74,9 @@ pub data Reach (C : Cut) (n : ℕ) : List ℕ → Option (List ℕ) → Table �
   -- "Make any sequence of puts and deletes"
   done : {pool map : List ℕ} {T : Table} (o : Op) → Reach C n pool (some map) T → whole o pool map .done .number ≡ 0
       → Reach C n (whole o pool map .pool) (some (whole o pool map .map)) (effect o T)
+  -- the same by its plan: all steps in order, and the finish
+  stepped : {pool map : List ℕ} {T : Table} (o : Op) → Reach C n pool (some map) T → planned o pool map .number ≡ 0
+      → Reach C n (byPlan o pool map .pool) (some (byPlan o pool map .map)) (effect o T)
   refused : {pool map : List ℕ} {T : Table} (o : Op) → Reach C n pool (some map) T → (whole o pool map .done .number ≡ 0 → ⊥)
       → Reach C n (whole o pool map .pool) (some (whole o pool map .map)) T
   -- "any of them cut before, between or after its stores" "After a cut the map is lost"
@@ -93,6 +100,13 @@ pub record Promised (n : ℕ) (pool : List ℕ) (map : Option (List ℕ)) (T : T
 
 abbrev pub Demand3 : Cut → Type 0
 Demand3 C = (n : ℕ) (pool : List ℕ) (map : Option (List ℕ)) (T : Table) → Reach C n pool map T → Promised n pool map T
+
+-- Format accepts every capacity with a pool and a map of its length, so that the states reached begin at each: "Its capacity N is 1 to 1024 leaves", "The pool
+-- has exactly 19N-15 words", a map "of 2N-1 bytes".
+abbrev pub Begins : Type 0
+Begins =
+    (n : ℕ) (pool map : List ℕ) → 1 ≤ n → n ≤ 1024 → length pool ≡ 19 * n - 15 → length map ≡ 2 * n - 1
+    → (f : Formatted) → FormatGives pool map n f → f .number ≡ 0
 
 -- And beside the demand: in every state that is reached at most one header is stale.
 abbrev pub AtMostOneStale : Cut → Type 0

@@ -1,40 +1,46 @@
--- "for each public call, two outcomes that both meet the promise are equal": each line is a call's own promise, met twice.
+-- "For every input, refusals too, a public function's promise determines the answer and the pool, map and buffers after it; uniqueness is proved": each line is
+-- a call's own promise, by the name that its function and the C function cite.
 -- Assumes nothing.
 use mathlib.Core.Path.{_≡_}
 use mathlib.Core.List.{List}
 use Prim.Native.Nat.{ℕ}
-use Rattle.plan.specs.Plans.{after, plannedOf, stepOf}
-use Rattle.finishing.specs.Finishes.{finishOf}
+use Rattle.plan.specs.Plans.{plannedOf, stepOf, StepGives, runOf, RunGives}
+use Rattle.finishing.specs.Finishes.{finishOf, FinishGives}
 use Rattle.plan.specs.declared.Plan.{Plan}
-use Rattle.plan.specs.declared.Planned.{Planned}
-use Rattle.finding.specs.Lookups.{told, lookupOf}
-use Rattle.listing.specs.Listings.{shown, listOf}
+use Rattle.finding.specs.Lookups.{told, lookupOf, LookupGives}
+use Rattle.listing.specs.Listings.{numbers, listOf, ListGives}
 use Rattle.finding.specs.declared.Found.{Found}
 use Rattle.listing.specs.declared.Listed.{Listed}
-use Rattle.rules.specs.Puts.{putPlan}
-use Rattle.rules.specs.Deletes.{deletePlan}
-use Rattle.writing.specs.Calls.{left, formatted, putOf, deleteOf, formatOf}
-use Rattle.writing.specs.declared.making.Done.{Done}
-use Rattle.opening.specs.Openings.{openPlan, openOf, left as leaves}
-use Rattle.opening.specs.declared.mending.Opened.{Opened}
+use Rattle.rules.specs.Puts.{putPlan, PlanPutGives}
+use Rattle.rules.specs.Deletes.{deletePlan, PlanDeleteGives}
+use Rattle.writing.specs.Calls.{putOf, PutGives, deleteOf, DeleteGives, formatOf, FormatGives}
+use Rattle.opening.specs.Openings.{openPlan, PlanOpenGives, openOf, OpenGives}
+use Rattle.handing.specs.Plans.{finishIn, FinishInGives, plannedIn, HandedOut}
+
+module _ {A : Type 0} where
+  -- an outcome meets a promise, and two outcomes that both meet it are equal
+  pub record OneOutcome (Promise : A → Type 0) (outcome : A) : Type 0 where
+    pub met : Promise outcome
+    pub one : (a a′ : A) → Promise a → Promise a′ → a ≡ a′
 
 pub record Unique : Type 0 where
-  pub lookup : (pool : List ℕ) (k : ℕ) (r r′ : Found) → told r ≡ lookupOf pool k → told r′ ≡ lookupOf pool k → r ≡ r′
-  pub list : (pool : List ℕ) (from : ℕ) (ks vs : List ℕ) (r r′ : Listed) (a a′ b b′ : List ℕ) → shown a b r ≡ listOf pool from ks vs
-      → shown a′ b′ r′ ≡ listOf pool from ks vs
-      → (a ≡ a′) × (b ≡ b′) × (r ≡ r′)
-  pub plan-put : (pool map : List ℕ) (k v : ℕ) (r r′ : Planned) → r ≡ plannedOf (putPlan pool map k v) → r′ ≡ plannedOf (putPlan pool map k v) → r ≡ r′
-  pub plan-delete : (pool : List ℕ) (k : ℕ) (r r′ : Planned) → r ≡ plannedOf (deletePlan pool k) → r′ ≡ plannedOf (deletePlan pool k) → r ≡ r′
-  pub plan-open : (pool : List ℕ) (r r′ : Planned) → r ≡ plannedOf (openPlan pool) → r′ ≡ plannedOf (openPlan pool) → r ≡ r′
-  pub step : (p : Plan) (at : ℕ) (pool : List ℕ) (r r′ : ℕ) (l l′ : List ℕ) → after r l ≡ stepOf p at pool → after r′ l′ ≡ stepOf p at pool
-      → (r ≡ r′) × (l ≡ l′)
-  pub finish : (p : Plan) (map : List ℕ) (r r′ : ℕ) (l l′ : List ℕ) → after r l ≡ finishOf (p .effect) map → after r′ l′ ≡ finishOf (p .effect) map
-      → (r ≡ r′) × (l ≡ l′)
-  pub put : (pool map : List ℕ) (k v : ℕ) (r r′ : Done) (p p′ m m′ : List ℕ) → left r p m ≡ putOf pool map k v → left r′ p′ m′ ≡ putOf pool map k v
-      → (r ≡ r′) × (p ≡ p′) × (m ≡ m′)
-  pub delete : (pool map : List ℕ) (k : ℕ) (r r′ : Done) (p p′ m m′ : List ℕ) → left r p m ≡ deleteOf pool map k → left r′ p′ m′ ≡ deleteOf pool map k
-      → (r ≡ r′) × (p ≡ p′) × (m ≡ m′)
-  pub format : (pool map : List ℕ) (n r r′ : ℕ) (p p′ m m′ : List ℕ) → formatted r p m ≡ formatOf pool map n
-      → formatted r′ p′ m′ ≡ formatOf pool map n → (r ≡ r′) × (p ≡ p′) × (m ≡ m′)
-  pub opening : (pool map : List ℕ) (r r′ : Opened) (p p′ m m′ : List ℕ) → leaves r p m ≡ openOf pool map → leaves r′ p′ m′ ≡ openOf pool map
-      → (r ≡ r′) × (p ≡ p′) × (m ≡ m′)
+  pub lookup : (pool : List ℕ) (k : ℕ) → OneOutcome (LookupGives pool k) (lookupOf pool k)
+  pub list : (pool : List ℕ) (from : ℕ) (ks vs : List ℕ) → OneOutcome (ListGives pool from ks vs) (listOf pool from ks vs)
+  pub plan-put : (pool map : List ℕ) (k v : ℕ) → OneOutcome (PlanPutGives pool map k v) (plannedOf (putPlan pool map k v))
+  pub plan-delete : (pool : List ℕ) (k : ℕ) → OneOutcome (PlanDeleteGives pool k) (plannedOf (deletePlan pool k))
+  pub plan-open : (pool : List ℕ) → OneOutcome (PlanOpenGives pool) (plannedOf (openPlan pool))
+  pub step : (p : Plan) (at : ℕ) (pool : List ℕ) → OneOutcome (StepGives p at pool) (stepOf p at pool)
+  pub run : (most : ℕ) (p : Plan) (pool : List ℕ) → OneOutcome (RunGives most p pool) (runOf most p pool)
+  pub finish : (p : Plan) (map : List ℕ) → OneOutcome (FinishGives p map) (finishOf (p .effect) map)
+  pub put : (pool map : List ℕ) (k v : ℕ) → OneOutcome (PutGives pool map k v) (putOf pool map k v)
+  pub delete : (pool map : List ℕ) (k : ℕ) → OneOutcome (DeleteGives pool map k) (deleteOf pool map k)
+  pub format : (pool map : List ℕ) (n : ℕ) → OneOutcome (FormatGives pool map n) (formatOf pool map n)
+  pub opening : (pool map : List ℕ) → OneOutcome (OpenGives pool map) (openOf pool map)
+  -- the numbers of an answer are of one case: what lookup finds, and whether a listing found a further entry
+  pub found : (f g : Found) → told f ≡ told g → f ≡ g
+  pub further : (a b : Listed) → numbers a ≡ numbers b → a ≡ b
+  -- the plans handed out to C as words, and a finish by such words
+  pub plan-put-words : (pool map : List ℕ) (k v : ℕ) → OneOutcome (HandedOut (PlanPutGives pool map k v)) (plannedIn (plannedOf (putPlan pool map k v)))
+  pub plan-delete-words : (pool : List ℕ) (k : ℕ) → OneOutcome (HandedOut (PlanDeleteGives pool k)) (plannedIn (plannedOf (deletePlan pool k)))
+  pub plan-open-words : (pool : List ℕ) → OneOutcome (HandedOut (PlanOpenGives pool)) (plannedIn (plannedOf (openPlan pool)))
+  pub finish-words : (words map : List ℕ) → OneOutcome (FinishInGives words map) (finishIn words map)

@@ -1,4 +1,4 @@
--- What a lookup answers for every run of words there is, and that its promise leaves one answer only.
+-- What a lookup answers for every run of words there is, and that the numbers of an answer tell its case.
 -- Assumes nothing.
 use mathlib.Core.Path.{_≡_, refl, sym, ap, _∙_}
 use mathlib.Core.List.{List}
@@ -72,7 +72,3 @@ untold-told WrongSize = refl
 
 pub told-injective : (f g : Found) → told f ≡ told g → f ≡ g
 told-injective f g e = sym (untold-told f) ∙ ap untold e ∙ untold-told g
-
--- the promise of lookup leaves one answer
-pub lookup-unique : (pool : List ℕ) (key : ℕ) (f g : Found) → told f ≡ lookupOf pool key → told g ≡ lookupOf pool key → f ≡ g
-lookup-unique pool key f g p q = told-injective f g (p ∙ sym q)

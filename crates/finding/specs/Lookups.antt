@@ -56,6 +56,10 @@ foundIn pool key Wrong = answer 1 0 0
 unfoldable pub lookupOf : List ℕ → ℕ → Answer
 lookupOf pool key = foundIn pool key (capacityOf pool)
 
+-- what lookup promises
+abbrev pub LookupGives : List ℕ → ℕ → Answer → Type 0
+LookupGives pool key a = a ≡ lookupOf pool key
+
 -- a lookup answers as a plain table: 0 and the file number of a name that is held, 3 and 0 for one that is not
 abbrev pub Finds : Option ℕ → Answer → Type 0
 Finds (some v) a = (a .number ≡ 0) × (a .value ≡ v)

@@ -2,7 +2,7 @@
 ghost use mathlib.Core.Path.{_≡_};
 ghost use Rattle.pool.specs.Sizes.{Sized};
 ghost use Rattle.pool.specs.Refs.{Within};
-ghost use Rattle.finding.specs.Lookups.{told, foundEnd, lookupOf};
+ghost use Rattle.finding.specs.Lookups.{told, foundEnd, LookupGives};
 use pool::Ref;
 use pool::Size;
 use walk::Head;
@@ -36,7 +36,7 @@ fn found_end(pool: &[u64], n: usize, key: u64, nodes: usize, r: Ref) -> Found
 
 // The file number of a key. The walk is made here and not by `walk`, which keeps more than a lookup needs.
 pub fn lookup(pool: &[u64], key: u64) -> Found
-    ensures { λ r. ⌜ told r ≡ lookupOf (now (pool .entry)) key ⌝ }
+    ensures { λ r. ⌜ LookupGives (now (pool .entry)) key (told r) ⌝ }
 {
     let Size::Holds(n) = pool::capacity(pool) else {
         return Found::WrongSize;

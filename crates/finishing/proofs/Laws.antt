@@ -1,4 +1,4 @@
--- Laws of finishing: what each byte is afterwards, where a byte is outside, and that the promise has one outcome.
+-- Laws of finishing: what each byte is afterwards, and where a byte is outside.
 -- Assumes nothing.
 use mathlib.Core.Path.{_≡_, refl, ap, _∙_}
 use mathlib.Core.Logic.{_⊎_, inl, inr, ⊎-elim}
@@ -17,7 +17,7 @@ use Rattle.plan.specs.declared.Effect.{Effect}
 use Rattle.plan.specs.declared.Effect.the-variants.{Nothing, TakesLeaf, TakesBoth, FreesLeaf, FreesBoth}
 use Rattle.plan.specs.Plans.{made, After, after, storeOf}
 use Rattle.plan.specs.Effects.{takes, frees, has, byteOf, Below, Inside}
-use Rattle.plan.proofs.Laws.{length-made, after-unique}
+use Rattle.plan.proofs.Laws.{length-made}
 use Rattle.finishing.specs.Finishes.{storesOf, finishOf}
 
 -- a store of v to each of these bytes
@@ -109,8 +109,3 @@ module _ (e : Effect) (bytes : List ℕ) where
         rw finish-made
         (marks-at 1 (takes e) l x (rw (length-made (marks 0 (frees e)) bytes) (inside .0)) ∙ ap (pick (has x (takes e)) 1)
         (marks-at 0 (frees e) bytes x (inside .1)))
-
--- the promise of finish has one outcome
-pub finish-unique : (e : Effect) (bytes : List ℕ) {r r′ : ℕ} {l l′ : List ℕ} → after r l ≡ finishOf e bytes → after r′ l′ ≡ finishOf e bytes
-    → (r ≡ r′) × (l ≡ l′)
-finish-unique e bytes = after-unique

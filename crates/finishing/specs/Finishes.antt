@@ -1,11 +1,13 @@
 -- Finishing: what an effect does to the bytes of a map.
 -- Assumes nothing.
+use mathlib.Core.Path.{_≡_}
 use mathlib.Core.List.{List}
 use Prim.Native.Nat.{ℕ}
 use lib.Dec.{ltb}
 use lib.ListN.{length, set}
 use Rattle.digits.specs.Choice.{pick}
 use Rattle.plan.specs.Plans.{After, after, storeOf}
+use Rattle.plan.specs.declared.Plan.{Plan}
 use Rattle.plan.specs.declared.Effect.{Effect}
 use Rattle.plan.specs.declared.Effect.the-variants.{Nothing, TakesLeaf, TakesBoth, FreesLeaf, FreesBoth}
 
@@ -20,3 +22,7 @@ finishOf (TakesLeaf a) bytes = storeOf a 1 bytes
 finishOf (TakesBoth a b) bytes = storesOf a b 1 bytes
 finishOf (FreesLeaf a) bytes = storeOf a 0 bytes
 finishOf (FreesBoth a b) bytes = storesOf a b 0 bytes
+
+-- what finish promises
+abbrev pub FinishGives : Plan → List ℕ → After → Type 0
+FinishGives p bytes a = a ≡ finishOf (p .effect) bytes

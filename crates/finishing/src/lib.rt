@@ -2,7 +2,7 @@
 ghost use mathlib.Core.Path.{_≡_};
 ghost use lib.ListN.{length, replicate};
 ghost use Rattle.plan.specs.Plans.{after, storeOf};
-ghost use Rattle.finishing.specs.Finishes.{storesOf, finishOf};
+ghost use Rattle.finishing.specs.Finishes.{storesOf, finishOf, FinishGives};
 use plan::Effect;
 use plan::Plan;
 
@@ -47,7 +47,7 @@ pub fn take_effect(map: &mut [u8], effect: Effect) -> u64
 
 // Finishing changes only the named map bytes.
 pub fn finish(map: &mut [u8], plan: Plan) -> u64
-    ensures { λ r. ⌜ after r (now (map .exit)) ≡ finishOf (plan .effect) (now (map .entry)) ⌝ }
+    ensures { λ r. ⌜ FinishGives plan (now (map .entry)) (after r (now (map .exit))) ⌝ }
 {
     let effect = plan.effect;
     take_effect(map, effect)

@@ -1,13 +1,15 @@
 -- A plan as a run of 46 words, as include/wort.h has it.
 -- Assumes nothing.
+use mathlib.Core.Path.{_≡_}
 use mathlib.Core.List.{List, [], _∷_, _++_}
 use Prim.Native.Nat.{ℕ}
 use lib.Dec.{eqb, ltb}
 use lib.ListN.{getD, take, drop}
 use Rattle.digits.specs.Choice.{pick}
-use Rattle.plan.specs.Plans.{After, after, Decided, plannedOf}
+use Rattle.plan.specs.Plans.{After, after}
 use Rattle.finishing.specs.Finishes.{finishOf}
 use Rattle.plan.specs.declared.Plan.{Plan}
+use Rattle.plan.specs.declared.Planned.{Planned}
 use Rattle.plan.specs.declared.Effect.{Effect}
 use Rattle.plan.specs.declared.Effect.the-variants.{Nothing, TakesLeaf, TakesBoth, FreesLeaf, FreesBoth}
 
@@ -41,6 +43,10 @@ planIn l = record {
 abbrev pub finishIn : List ℕ → List ℕ → After
 finishIn l bytes = pick (ltb 4 (getD l 1 0)) (after 5 bytes) (finishOf (planIn l .effect) bytes)
 
+-- what finishing by such a run promises
+abbrev pub FinishInGives : List ℕ → List ℕ → After → Type 0
+FinishInGives l bytes a = a ≡ finishIn l bytes
+
 -- a planning call: the number, and the plan's words
 pub record PlannedWords : Type 0 where
   pub number : ℕ
@@ -49,5 +55,9 @@ pub record PlannedWords : Type 0 where
 abbrev pub planned : ℕ → List ℕ → PlannedWords
 planned k l = record { number = k; plan = l }
 
-abbrev pub plannedIn : Decided → PlannedWords
-plannedIn d = planned (d .number) (wordsOf (plannedOf d .plan))
+abbrev pub plannedIn : Planned → PlannedWords
+plannedIn p = planned (p .number) (wordsOf (p .plan))
+
+-- what handing out the answer of a planning call promises: the words of a plan that the call's own promise allows
+abbrev pub HandedOut : (Planned → Type 0) → PlannedWords → Type 0
+HandedOut Gives l = (p : Planned) × Gives p × (l ≡ plannedIn p)

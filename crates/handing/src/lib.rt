@@ -3,7 +3,7 @@ ghost use mathlib.Core.Path.{_≡_};
 ghost use mathlib.Core.List.{[], _∷_, _++_};
 ghost use lib.ListN.{length, take};
 ghost use lib.Seq.{sets};
-ghost use Rattle.handing.specs.Plans.{effectWords, wordsOf, effectOf, planIn, planned};
+ghost use Rattle.handing.specs.Plans.{effectWords, wordsOf, effectOf, planIn, planned, plannedIn};
 use plan::Effect;
 use plan::Plan;
 use plan::Planned;
@@ -43,18 +43,30 @@ fn lay_stores(plan: &mut [u64], words: &[usize], values: &[u64])
     }
 }
 
+// Writes a plan, of these parts.
+pub fn lay_plan<'a>(
+    plan: &mut [u64; 46],
+    count: usize,
+    effect: Effect,
+    words: &'a [usize],
+    values: &'a [u64],
+)
+    requires { ⌜ (length (now words) ≡ 21) × (length (now values) ≡ 21) ⌝ }
+    ensures { λ _. ⌜ now (plan .exit) ≡ wordsOf (record { words = now (words .entry); values = now (values .entry); count = count; effect = effect }) ⌝ }
+{
+    plan[0] = count as u64;
+    lay_effect(plan, effect);
+    lay_stores(plan, words, values);
+}
+
 // Hands out what a planning call answers.
 pub fn hand_out(plan: &mut [u64; 46], p: Planned) -> u64
-    ensures { λ r. ⌜ planned r (now (plan .exit)) ≡ planned (p .number) (wordsOf (p .plan)) ⌝ }
+    ensures { λ r. ⌜ planned r (now (plan .exit)) ≡ plannedIn p ⌝ }
 {
     let number = p.number;
     let decided = p.plan;
-    let words = decided.words;
-    let values = decided.values;
     let effect = decided.effect;
-    plan[0] = decided.count as u64;
-    lay_effect(plan, effect);
-    lay_stores(plan, &words, &values);
+    lay_plan(plan, decided.count, effect, &decided.words, &decided.values);
     number
 }
 

@@ -1,6 +1,6 @@
--- What a listing answers for every run of words there is, and that its promise leaves one answer only.
+-- What a listing answers for every run of words there is.
 -- Assumes nothing.
-use mathlib.Core.Path.{_≡_, refl, sym, ap, _∙_}
+use mathlib.Core.Path.{_≡_, refl}
 use mathlib.Core.Bool.{false}
 use mathlib.Core.Logic.{_⊎_, inl, inr}
 use mathlib.Core.List.{List}
@@ -12,7 +12,6 @@ use Rattle.pool.specs.Sizes.{capacityOf}
 use Rattle.pool.specs.Places.{wordAt}
 use Rattle.pool.specs.declared.Size.{Size}
 use Rattle.pool.specs.declared.Size.the-variants.{Holds, Wrong}
-use Rattle.listing.specs.declared.Listed.{Listed}
 use Rattle.listing.specs.Listings.{Visit, state, visit, visitFrom, Shown, shown, listed, judged, listIn, listOf}
 use Rattle.digits.proofs.Choice.{pick-case}
 use Rattle.listing.proofs.Bounds.{Bounded, bounded-start, visit-bounded}
@@ -53,10 +52,3 @@ module _ (pool : List ℕ) (from : ℕ) (ks vs : List ℕ) where
           (λ u. judged-lists (wholeOf pool n from ks vs) c refl (visit-bounded n ks vs pool from 17 0 (wordAt pool 1) _ (bounded-start n ks vs)))
           (λ u. buffers c (inr (eqb-false (length ks) (length vs) u))))
       go Wrong c = size c
-
--- the promise of list leaves one answer and one content of each buffer
-pub list-unique : (pool : List ℕ) (from : ℕ) (ks vs : List ℕ) {ks′ vs′ ks″ vs″ : List ℕ} {a b : Listed}
-    → shown ks′ vs′ a ≡ listOf pool from ks vs → shown ks″ vs″ b ≡ listOf pool from ks vs → (ks′ ≡ ks″) × (vs′ ≡ vs″) × (a ≡ b)
-list-unique pool from ks vs p q =
-    let e = p ∙ sym q in
-    (ap (λ (s : Shown). s .keys) e, ap (λ (s : Shown). s .values) e, ap (λ (s : Shown). s .answer) e)

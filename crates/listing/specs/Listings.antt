@@ -1,5 +1,6 @@
 -- Listing: the entries from a key on, in any run of words, into two lent buffers.
 -- Assumes nothing.
+use mathlib.Core.Path.{_≡_}
 use mathlib.Core.Bool.{Bool, false}
 use mathlib.Core.List.{List}
 use Prim.Native.Nat.{ℕ, zero, suc, _+_}
@@ -70,17 +71,30 @@ visitFrom zero pool n from w r v = pick (eqb (v .state .phase) 0) (refVisit (λ 
 visitFrom (suc more) pool n from w r v =
     pick (eqb (v .state .phase) 0) (refVisit (nodeOf (visitFrom more pool n from) pool n w) pool n from (refOf n r) v) v
 
+-- a listing's answer in document 01's numbers: the last is 1 where a further entry was found, and else 0
+pub record Told : Type 0 where
+  pub number : ℕ
+  pub count : ℕ
+  pub more : ℕ
+
+abbrev pub told : ℕ → ℕ → ℕ → Told
+told k c m = record { number = k; count = c; more = m }
+
+abbrev pub listed : ℕ → ℕ → Bool → Told
+listed k c further = told k c (pick further 1 0)
+
+-- the numbers of the code's answer
+abbrev pub numbers : Listed → Told
+numbers a = listed (a .number) (a .count) (a .more)
+
 -- what a listing leaves: the buffers and the answer
 pub record Shown : Type 0 where
   pub keys : List ℕ
   pub values : List ℕ
-  pub answer : Listed
+  pub answer : Told
 
-abbrev pub shown : List ℕ → List ℕ → Listed → Shown
+abbrev pub shown : List ℕ → List ℕ → Told → Shown
 shown ks vs a = record { keys = ks; values = vs; answer = a }
-
-abbrev pub listed : ℕ → ℕ → Bool → Listed
-listed k c m = record { number = k; count = c; more = m }
 
 -- "2 | damage met | .. listing: both buffers all 0". "Entries beyond the count keep their contents."
 unfoldable pub judged : Visit → Shown
@@ -100,3 +114,7 @@ listIn pool from ks vs Wrong = shown ks vs (listed 1 0 false)
 
 unfoldable pub listOf : List ℕ → ℕ → List ℕ → List ℕ → Shown
 listOf pool from ks vs = listIn pool from ks vs (capacityOf pool)
+
+-- what list promises
+abbrev pub ListGives : List ℕ → ℕ → List ℕ → List ℕ → Shown → Type 0
+ListGives pool from ks vs s = s ≡ listOf pool from ks vs

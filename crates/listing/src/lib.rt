@@ -6,7 +6,7 @@ ghost use lib.ListN.{length, replicate};
 ghost use Rattle.digits.specs.Loops.{scan};
 ghost use Rattle.pool.specs.Sizes.{Sized};
 ghost use Rattle.walk.specs.Walks.{isChild};
-ghost use Rattle.listing.specs.Listings.{state, visit, damaged, leafOf, nodeOf, visitFrom, shown, listed, listOf};
+ghost use Rattle.listing.specs.Listings.{state, visit, damaged, leafOf, nodeOf, visitFrom, numbers, shown, ListGives};
 use digits::Header;
 use pool::Ref;
 use pool::Size;
@@ -204,7 +204,7 @@ fn clear(buffer: &mut [u64])
 
 // A refusal.
 fn refused(number: u64) -> Listed
-    ensures { λ r. ⌜ r ≡ listed number 0 false ⌝ }
+    ensures { λ r. ⌜ r ≡ record { number = number; count = 0; more = false } ⌝ }
 {
     Listed {
         number,
@@ -215,7 +215,7 @@ fn refused(number: u64) -> Listed
 
 // The entries with a key at or above `from`, in the order of their keys, until the buffers are full.
 pub fn list(pool: &[u64], from: u64, keys: &mut [u64], values: &mut [u64]) -> Listed
-    ensures { λ r. ⌜ shown (now (keys .exit)) (now (values .exit)) r ≡ listOf (now (pool .entry)) from (now (keys .entry)) (now (values .entry)) ⌝ }
+    ensures { λ r. ⌜ ListGives (now (pool .entry)) from (now (keys .entry)) (now (values .entry)) (shown (now (keys .exit)) (now (values .exit)) (numbers r)) ⌝ }
 {
     let Size::Holds(n) = pool::capacity(pool) else {
         return refused(1);

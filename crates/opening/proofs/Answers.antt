@@ -1,6 +1,6 @@
--- What an opening answers and leaves, and what its planning call answers, for every run of words there is. No more than one outcome keeps each
--- promise. Assumes nothing.
-use mathlib.Core.Path.{_≡_, refl, sym, ap, _∙_}
+-- What an opening answers and leaves, and what its planning call answers, for every run of words there is.
+-- Assumes nothing.
+use mathlib.Core.Path.{_≡_, refl, sym, _∙_}
 use mathlib.Core.Bool.{Bool, true, false}
 use mathlib.Core.List.{List, [], map}
 use Prim.Native.Nat.{ℕ, zero, suc, _+_, _-_, _≤_, _<_}
@@ -22,13 +22,11 @@ use Rattle.walk.specs.declared.Head.{Head}
 use Rattle.walk.specs.declared.Head.the-variants.{Branch, Wrong as Unaccepted}
 use Rattle.walk.specs.declared.Lowest.{Lowest}
 use Rattle.walk.specs.declared.Lowest.the-variants.{Key, NoKey}
-use Rattle.plan.specs.Plans.{Decided, plannedOf}
-use Rattle.plan.specs.declared.Planned.{Planned}
+use Rattle.plan.specs.Plans.{Decided}
 use Rattle.plan.specs.declared.Effect.the-variants.{Nothing}
 use Rattle.plan.proofs.Laws.{length-made}
 use Rattle.survey.specs.Surveys.{surveyOf}
 use Rattle.survey.proofs.Loops.{pick-both}
-use Rattle.opening.specs.declared.mending.Opened.{Opened}
 use Rattle.opening.specs.Openings.{depthMarked, stale, mendWith, mendAt, mendOf, firstStale, mendFirst, openIn, openPlan, Mended, mendNode, mended, reached, opened, Left, left, restored, leftIn, openOf}
 use Rattle.opening.proofs.Openings.{at-most-one-store, bytes-flat, few-keys}
 use Rattle.opening.proofs.Marks.{survey-length}
@@ -86,9 +84,6 @@ module _ (pool : List ℕ) where
           (record { number≤ = omega arith; one = first-few n (surveyOf pool n .marks); inside = first-inside n (sized pool e) (surveyOf pool n .marks); effect = refl })
           (record { number≤ = omega arith; one = omega arith; inside = tt; effect = refl })
       go Wrong e = record { number≤ = omega arith; one = omega arith; inside = tt; effect = refl }
-
-  pub plan-unique : {r r′ : Planned} → r ≡ plannedOf (openPlan pool) → r′ ≡ plannedOf (openPlan pool) → r ≡ r′
-  plan-unique p q = p ∙ sym q
 
 -- ---- the headers mended
 module _ (n : ℕ) (marks pool : List ℕ) where
@@ -204,6 +199,3 @@ module _ (pool bytes : List ℕ) where
       go (done k j) =
           let q : k ≡ n = holds-same (sym (j .size) ∙ e) in
           rw q (few-keys (surveyOf pool n .marks) n, mended-few n (surveyOf pool n .marks) pool (n - 1))
-
-  pub open-unique : {r r′ : Opened} {p p′ m m′ : List ℕ} → left r p m ≡ openOf pool bytes → left r′ p′ m′ ≡ openOf pool bytes → (r ≡ r′) × (p ≡ p′) × (m ≡ m′)
-  open-unique a b = (ap (λ (x : Left). x .answer) (a ∙ sym b), ap (λ (x : Left). x .pool) (a ∙ sym b), ap (λ (x : Left). x .map) (a ∙ sym b))

@@ -128,6 +128,7 @@ module _ (n : ℕ) (pos : 1 ≤ n) (cap : n ≤ 1024) (t : Tree ℕ) where
       pub straight : (j : ℕ) → j < i → j + 1 < n → (S : NodeAt n pos cap t j) → depthOf (headerAt (v .pool) n j) ≡ dep (S .π) 0 t
       pub kept : (y : ℕ) → ((j : ℕ) → j < i → y ≢ nodeWord n j) → wordAt (v .pool) y ≡ wordAt p y
       pub steps : openSteps (v .headers) p ≡ v .pool
+      pub each : (k : ℕ) → k < v .headers → length (openPlan (openSteps k p) .stores) ≡ 1
       pub few : v .headers ≤ i
 
     module _ (i : ℕ) (in-pool : i + 1 < n) (v : Mended) (ih : SoFar i v) where
@@ -137,6 +138,7 @@ module _ (n : ℕ) (pos : 1 ≤ n) (cap : n ≤ 1024) (t : Tree ℕ) where
         straight = λ j l jn S. up j jn S (last? j i l);
         kept = λ y h. ih .kept y (λ j l. h j (omega arith));
         steps = ih .steps;
+        each = ih .each;
         few = omega (arith, ih .few);
       })
         where
@@ -164,6 +166,7 @@ module _ (n : ℕ) (pos : 1 ≤ n) (cap : n ≤ 1024) (t : Tree ℕ) where
         steps =
             ap (λ (k : ℕ). openSteps k p) (one-more ∙ add-one (v .headers)) ∙ steps-snoc (v .headers) p
             ∙ rw (ih .steps) (ap (λ (σ : List Store). made σ (v .pool)) (planned e));
+        each = λ k l. one-each k (last? k (v .headers) (omega (arith, one-more)));
         few = omega (arith, ih .few, one-more);
       })
         where
@@ -178,6 +181,10 @@ module _ (n : ℕ) (pos : 1 ≤ n) (cap : n ≤ 1024) (t : Tree ℕ) where
 
           one-more : v .headers + length (mendOf (v .pool) n (depthMarked marks n i) i) ≡ v .headers + 1
           one-more = ap (λ (σ : List Store). v .headers + length σ) (mends-one (v .pool) (ih .pool) i in-pool Sᵢ)
+
+          one-each : (k : ℕ) → (k ≡ v .headers) ⊎ (k < v .headers) → length (openPlan (openSteps k p) .stores) ≡ 1
+          one-each k (inl z) = rw (z, ih .steps, planned e) (ap length (mends-one (v .pool) (ih .pool) i in-pool Sᵢ))
+          one-each k (inr l) = ih .each k l
 
           up : (j : ℕ) → j + 1 < n → (S : NodeAt n pos cap t j) → (j ≡ i) ⊎ (j < i)
               → depthOf (headerAt (made (mendOf (v .pool) n (depthMarked marks n i) i) (v .pool)) n j) ≡ dep (S .π) 0 t
@@ -201,7 +208,14 @@ module _ (n : ℕ) (pos : 1 ≤ n) (cap : n ≤ 1024) (t : Tree ℕ) where
 
     pub so-far : (i : ℕ) → i ≤ n - 1 → SoFar i (mended n marks i p)
     unfolding upto openSteps
-    so-far zero l = record { pool = P; straight = λ j k. absurd (omega arith); kept = λ y h. refl; steps = refl; few = omega arith }
+    so-far zero l = record {
+      pool = P;
+      straight = λ j k. absurd (omega arith);
+      kept = λ y h. refl;
+      steps = refl;
+      each = λ k h. absurd (omega arith);
+      few = omega arith;
+    }
     so-far (suc i) l = next i (omega arith) (mended n marks i p) (so-far i (omega arith))
 
     abbrev pub end : Mended

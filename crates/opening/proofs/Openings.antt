@@ -26,10 +26,10 @@ use Rattle.walk.specs.declared.Head.the-variants.{Branch, Wrong as Unaccepted}
 use Rattle.walk.specs.declared.Lowest.{Lowest}
 use Rattle.walk.specs.declared.Lowest.the-variants.{Key, NoKey}
 use Rattle.walk.proofs.Loops.{tally-true, tally-false, tally-le}
-use Rattle.plan.specs.Plans.{made, planOf, plannedOf, refused, After, after, stepOf}
+use Rattle.plan.specs.Plans.{made, planOf, plannedOf, refused, storesIn, Ran, ran, makesOf}
 use Rattle.plan.specs.declared.Plan.{Plan}
 use Rattle.plan.specs.declared.Effect.the-variants.{Nothing}
-use Rattle.plan.proofs.Laws.{step-made}
+use Rattle.plan.proofs.Laws.{makes-all}
 use Rattle.survey.specs.Surveys.{surveyOf, Found}
 use Rattle.survey.proofs.Loops.{pick-both, upto-turn, tally-same}
 use Rattle.opening.specs.Openings.{depthMarked, stale, mendWith, mendAt, mendOf, firstStale, mendFirst, openJudged, openPlan, Mended, mends, mendNode, mended, reached, keysOf, opened, Left, left, restored, leftJudged, openOf}
@@ -116,14 +116,13 @@ module _ (n : ℕ) (marks : List ℕ) (j : ℕ) (pool : List ℕ) {t : Bool} (is
     unfolding made
     mend-undone e = rw (← is, not-false t needed, ← depth, ← e)
 
-    pub mend-done : {x v k : ℕ} {p : Plan} {l : List ℕ} → record { word = nodeWord n j; value = v } ∷ [] ≡ mendOf pool n w j → nodeWord n j < length pool
-        → x ≡ nodeWord n j → p ≡ planOf (record { word = x; value = v } ∷ []) Nothing → after k l ≡ stepOf p 0 pool
-        → mends l 1 ≡ mendNode n marks j (mends pool 0)
-    unfolding made Words
-    mend-done {v = v} {k = k} {l = l} e h y q a =
+    pub mend-done : {x v r : ℕ} {l : List ℕ} → record { word = nodeWord n j; value = v } ∷ [] ≡ mendOf pool n w j → nodeWord n j < length pool
+        → x ≡ nodeWord n j → ran r l ≡ makesOf 1 (storesIn (x ∷ []) (v ∷ [])) pool → mends l r ≡ mendNode n marks j (mends pool 0)
+    unfolding storesIn made Words
+    mend-done {v = v} e h y a =
         let s : Store = record { word = nodeWord n j; value = v } in
-        let m : after k l ≡ after 0 (set pool (nodeWord n j) v) = a ∙ rw (q, y) (step-made (s ∷ []) Nothing (omega arith) pool (h, tt) 0 (omega arith)) in
-        rw (← is, not-false t needed, ← depth, ← e) (ap (λ (z : After). mends (z .left) 1) m)
+        rw (← is, not-false t needed, ← depth, ← e)
+        (ap (λ (z : Ran). mends (z .left) (z .steps)) (a ∙ rw y (makes-all 1 (s ∷ []) pool (omega arith) (h, tt))))
 
 -- ---- all of them
 pub at-most-one-header : (n : ℕ) (marks : List ℕ) (j : ℕ) (pool : List ℕ) → mendNode n marks j (mends pool 0) .headers ≤ 1

@@ -1,5 +1,6 @@
 -- Opening: judge the whole pool, mend the stale headers, mark what is reached.
 -- Assumes nothing.
+use mathlib.Core.Path.{_≡_}
 use mathlib.Core.Bool.{Bool, false, not}
 use mathlib.Core.List.{List, [], _∷_, map}
 use Prim.Native.Nat.{ℕ, zero, suc, _+_, _-_}
@@ -18,7 +19,8 @@ use Rattle.walk.specs.declared.Head.{Head}
 use Rattle.walk.specs.declared.Head.the-variants.{Branch, Wrong as Unaccepted}
 use Rattle.walk.specs.declared.Lowest.{Lowest}
 use Rattle.walk.specs.declared.Lowest.the-variants.{Key, NoKey}
-use Rattle.plan.specs.Plans.{made, Decided, decided, refused}
+use Rattle.plan.specs.Plans.{made, Decided, decided, refused, plannedOf}
+use Rattle.plan.specs.declared.Planned.{Planned}
 use Rattle.plan.specs.declared.Effect.the-variants.{Nothing}
 use Rattle.survey.specs.Surveys.{Survey, surveyOf}
 use Rattle.opening.specs.declared.mending.Opened.{Opened}
@@ -70,6 +72,10 @@ openIn pool Wrong = refused 1
 
 unfoldable pub openPlan : List ℕ → Decided
 openPlan pool = openIn pool (capacityOf pool)
+
+-- what plan_open promises
+abbrev pub PlanOpenGives : List ℕ → Planned → Type 0
+PlanOpenGives pool p = p ≡ plannedOf (openPlan pool)
 
 -- the pool, and how many headers were rewritten
 pub record Mended : Type 0 where
@@ -126,6 +132,10 @@ leftIn pool bytes Wrong = left (opened 1 0 0) pool bytes
 
 unfoldable pub openOf : List ℕ → List ℕ → Left
 openOf pool bytes = leftIn pool bytes (capacityOf pool)
+
+-- what open promises
+abbrev pub OpenGives : List ℕ → List ℕ → Left → Type 0
+OpenGives pool bytes l = l ≡ openOf pool bytes
 
 -- opening's first k stores, each the answer of the planning call on the pool as it then is
 unfoldable pub openSteps : ℕ → List ℕ → List ℕ

@@ -6,7 +6,7 @@ ghost use lib.ListN.{length, getD, replicate};
 ghost use Rattle.pool.specs.Sizes.{Sized, bytesOf};
 ghost use Rattle.plan.specs.Plans.{planOf, plannedOf};
 ghost use Rattle.survey.specs.Surveys.{surveyOf};
-ghost use Rattle.opening.specs.Openings.{depthMarked, stale, mendOf, freshStores, mendFirst, openJudged, openPlan, mends, mendNode, mended, reached, keysOf, opened, left, restored, leftJudged, openOf};
+ghost use Rattle.opening.specs.Openings.{depthMarked, stale, mendOf, freshStores, mendFirst, openJudged, PlanOpenGives, mends, mendNode, mended, reached, keysOf, opened, left, restored, leftJudged, OpenGives};
 use digits::Header;
 use plan::Effect;
 use plan::Plan;
@@ -114,7 +114,7 @@ fn plan_within(pool: &[u64], n: usize, scratch: &mut [u8]) -> Planned
 
 // The first store that open makes, or none.
 pub fn plan_open(pool: &[u64]) -> Planned
-    ensures { λ r. ⌜ r ≡ plannedOf (openPlan (now (pool .entry))) ⌝ }
+    ensures { λ r. ⌜ PlanOpenGives (now (pool .entry)) r ⌝ }
 {
     let Size::Holds(n) = pool::capacity(pool) else {
         return Planned::refused(1);
@@ -134,12 +134,12 @@ fn mend_node(pool: &mut [u64], n: usize, map: &[u8], j: usize) -> usize
     let Fresh::Header(word) = fresh_header(pool, n, marked_depth(map, n, j), j) else {
         return 0;
     };
-    let mended = Plan::one(pool::node_word(n, j), word, Effect::Nothing);
-    plan::step(pool, mended, 0);
-    1
+    let words = [pool::node_word(n, j)];
+    let values = [word];
+    plan::make(pool, &words, &values, 1)
 }
 
-// Mends every stale header, lower-numbered nodes first, one step each.
+// Mends every stale header, lower-numbered nodes first, one store each.
 fn mend(pool: &mut [u64], n: usize, map: &[u8]) -> usize
     requires { ⌜ Sized (now pool) n × (length (now map) ≡ bytesOf n) ⌝ }
     ensures { λ r. ⌜ mends (now (pool .exit)) r ≡ mended n (now (map .entry)) (n - 1) (now (pool .entry)) ⌝ }
@@ -225,7 +225,7 @@ fn open_sized(pool: &mut [u64], n: usize, map: &mut [u8]) -> Opened
 
 // Judges the whole pool, mends its stale headers and rebuilds its map.
 pub fn open(pool: &mut [u64], map: &mut [u8]) -> Opened
-    ensures { λ r. ⌜ left r (now (pool .exit)) (now (map .exit)) ≡ openOf (now (pool .entry)) (now (map .entry)) ⌝ }
+    ensures { λ r. ⌜ OpenGives (now (pool .entry)) (now (map .entry)) (left r (now (pool .exit)) (now (map .exit))) ⌝ }
 {
     let Size::Holds(n) = pool::capacity(pool) else {
         return refused(1);

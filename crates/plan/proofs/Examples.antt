@@ -6,7 +6,7 @@ use Prim.Native.Nat.{ℕ}
 use Rattle.tree.specs.Stores.{Store}
 use Rattle.plan.specs.declared.Plan.{Plan}
 use Rattle.plan.specs.declared.Effect.the-variants.{TakesLeaf}
-use Rattle.plan.specs.Plans.{planOf, after, stepOf, ran, stepsFrom, runOf}
+use Rattle.plan.specs.Plans.{planOf, after, stepOf, storesIn, ran, makesOf, runOf}
 
 -- two stores, word 3 := 40 and then word 1 := 2, that take byte 0 of the map
 stores : List Store
@@ -53,9 +53,21 @@ count-over = refl
 
 -- a run of one step, and of as many as the plan has
 cut-run : runOf 1 two pool ≡ ran 1 (9 ∷ 9 ∷ 9 ∷ 40 ∷ [])
-unfolding two stores pool stepOf stepsFrom
+unfolding two stores pool storesIn makesOf
 cut-run = refl
 
 whole-run : runOf 21 two pool ≡ ran 2 (9 ∷ 2 ∷ 9 ∷ 40 ∷ [])
-unfolding two stores pool stepOf stepsFrom
+unfolding two stores pool storesIn makesOf
 whole-run = refl
+
+-- a word that two stores name holds what the last of those made gave it
+named-twice :
+    (makesOf 1 (storesIn (2 ∷ 2 ∷ []) (5 ∷ 6 ∷ [])) pool ≡ ran 1 (9 ∷ 9 ∷ 5 ∷ 9 ∷ []))
+    × (makesOf 2 (storesIn (2 ∷ 2 ∷ []) (5 ∷ 6 ∷ [])) pool ≡ ran 2 (9 ∷ 9 ∷ 6 ∷ 9 ∷ []))
+unfolding pool storesIn makesOf
+named-twice = (refl, refl)
+
+-- a store outside the pool is refused, and none is made after it
+none-after-a-refusal : makesOf 3 (storesIn (2 ∷ 4 ∷ 3 ∷ []) (5 ∷ 6 ∷ 7 ∷ [])) pool ≡ ran 1 (9 ∷ 9 ∷ 5 ∷ 9 ∷ [])
+unfolding pool storesIn makesOf
+none-after-a-refusal = refl

@@ -5,7 +5,6 @@ use mathlib.Core.List.{List, [], _∷_}
 use Prim.Native.Nat.{ℕ, _<_}
 use lib.Dec.{eqb}
 use Rattle.digits.specs.Choice.{pick}
-use Rattle.plan.specs.declared.Plan.{Plan}
 use Rattle.plan.specs.declared.Effect.{Effect}
 use Rattle.plan.specs.declared.Effect.the-variants.{Nothing, TakesLeaf, TakesBoth, FreesLeaf, FreesBoth}
 
@@ -42,7 +41,3 @@ Below n (x ∷ xs) = (x < n) × Below n xs
 -- the bytes that an effect names are inside a map of n bytes
 abbrev pub Inside : Effect → ℕ → Type 0
 Inside e n = Below n (takes e) × Below n (frees e)
-
--- a plan that does nothing to the map: the words, values and count that its steps see
-abbrev pub bare : List ℕ → List ℕ → ℕ → Plan
-bare ws vs n = record { words = ws; values = vs; count = n; effect = Nothing }

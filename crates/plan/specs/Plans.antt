@@ -1,5 +1,6 @@
 -- Plans: their stores in order, one step, and a run of steps.
 -- Assumes nothing.
+use mathlib.Core.Path.{_≡_}
 use mathlib.Core.Bool.{true, false}
 use mathlib.Core.List.{List, [], _∷_, _++_, map}
 use Prim.Native.Nat.{ℕ, zero, suc, _+_}
@@ -64,7 +65,18 @@ stepOf p at pool =
     (pick (leb (p .count) at) (after 5 pool)
     (storeOf (getD (p .words) at 0) (getD (p .values) at 0) pool))
 
--- steps i, i + 1, .. of a plan, at most n, until one is refused: the number of the next step, and the words then
+-- what step promises
+abbrev pub StepGives : Plan → ℕ → List ℕ → After → Type 0
+StepGives p at pool a = a ≡ stepOf p at pool
+
+-- ---- stores one after the other
+-- two lists as stores: the word numbers, and the values for them
+unfoldable pub storesIn : List ℕ → List ℕ → List Store
+storesIn [] vs = []
+storesIn (w ∷ ws) [] = []
+storesIn (w ∷ ws) (v ∷ vs) = record { word = w; value = v } ∷ storesIn ws vs
+
+-- how many stores were made, and the words then
 pub record Ran : Type 0 where
   pub steps : ℕ
   pub left : List ℕ
@@ -72,12 +84,25 @@ pub record Ran : Type 0 where
 abbrev pub ran : ℕ → List ℕ → Ran
 ran k l = record { steps = k; left = l }
 
-unfoldable pub stepsFrom : ℕ → Plan → ℕ → List ℕ → Ran
-stepsFrom zero p i pool = ran i pool
-stepsFrom (suc n) p i pool =
-    let a : After = stepOf p i pool in
-    elim (eqb (a .number) 0) [ true ↦ stepsFrom n p (i + 1) (a .left) | false ↦ ran i pool ]
+abbrev pub oneMore : Ran → Ran
+oneMore r = ran (r .steps + 1) (r .left)
 
--- the first steps of a plan, at most so many
+-- the first n of these stores, in their order, until one is refused; a word may be named twice
+unfoldable pub makesOf : ℕ → List Store → List ℕ → Ran
+makesOf zero σ pool = ran 0 pool
+makesOf (suc n) [] pool = ran 0 pool
+makesOf (suc n) (s ∷ σ) pool =
+    let a : After = storeOf (s .word) (s .value) pool in
+    elim (eqb (a .number) 0) [ true ↦ oneMore (makesOf n σ (a .left)) | false ↦ ran 0 pool ]
+
+-- the stores that a plan's steps make, in order: none where its count is over 21
+abbrev pub storesOf : Plan → List Store
+storesOf p = pick (ltb 21 (p .count)) [] (take (p .count) (storesIn (p .words) (p .values)))
+
+-- the first steps of a plan, at most so many, until one is refused
 abbrev pub runOf : ℕ → Plan → List ℕ → Ran
-runOf most p pool = stepsFrom most p 0 pool
+runOf most p pool = makesOf most (storesOf p) pool
+
+-- what run promises
+abbrev pub RunGives : ℕ → Plan → List ℕ → Ran → Type 0
+RunGives most p pool r = r ≡ runOf most p pool

@@ -1,12 +1,9 @@
-// Plans: at most 21 stores in order, each made by one step, and what they do to the map.
+// Plans: at most 21 stores in order, each made by one step, and what they do to the map; and the one loop that makes stores.
 ghost use mathlib.Core.Path.{_≡_};
 ghost use mathlib.Core.List.{[], _∷_};
-ghost use Prim.Native.Nat.{_+_, _-_, _^_, _≤_, _<_};
-ghost use lib.ListN.{length, set};
-ghost use Rattle.tree.specs.Stores.{block};
-ghost use Rattle.plan.specs.Effects.{bare};
-ghost use Rattle.plan.specs.Followed.{followed};
-ghost use Rattle.plan.specs.Plans.{planOf, refused, plannedOf, after, storeOf, stepOf, ran, runOf};
+ghost use Prim.Native.Nat.{_≤_, min};
+ghost use lib.ListN.{length};
+ghost use Rattle.plan.specs.Plans.{planOf, refused, plannedOf, after, storeOf, stepOf, StepGives, ran, storesIn, makesOf, RunGives};
 
 // What a plan does to the map. Slots are named by their byte number in the map.
 pub enum Effect {
@@ -62,39 +59,9 @@ impl Plan {
             effect,
         }
     }
-
-    // The plan with further stores behind its own: these values, from a word on. There is room for them, and their last word is a machine number.
-    pub fn then(self, word: usize, values: &[u64]) -> Plan
-        requires { ⌜ (self .count + length (now values) ≤ 21) × (length (now values) - 1 ≤ 2 ^ 64 - 1 - word) ⌝ }
-        ensures { λ r. ⌜ r ≡ followed self (block word (now (values .entry))) ⌝ }
-    {
-        let count = self.count;
-        let effect = self.effect;
-        let mut words = self.words;
-        let mut held = self.values;
-        let mut i: usize = 0;
-        while i < values.len() {
-            words[count + i] = word + i;
-            held[count + i] = values[i];
-            i += 1;
-        }
-        Plan {
-            words,
-            values: held,
-            count: count + i,
-            effect,
-        }
-    }
 }
 
 impl Planned {
-    // A plan that is to be made.
-    pub fn made(plan: Plan) -> Planned
-        ensures { λ r. ⌜ r ≡ record { number = 0; plan = plan } ⌝ }
-    {
-        Planned { number: 0, plan }
-    }
-
     // A refusal, with a plan that does nothing.
     pub fn refused(number: u64) -> Planned
         ensures { λ r. ⌜ r ≡ plannedOf (refused number) ⌝ }
@@ -106,30 +73,24 @@ impl Planned {
     }
 }
 
-// The one store, to a word of the pool.
-pub fn set_word(pool: &mut [u64], word: usize, value: u64)
-    requires { ⌜ word < length (now pool) ⌝ }
-    ensures { λ _. ⌜ now (pool .exit) ≡ set (now (pool .entry)) word value ⌝ }
-{
-    pool[word] = value;
-}
-
-// The single store, to any word: 5 where the pool has none such.
-pub fn store(pool: &mut [u64], word: usize, value: u64) -> u64
+// The single store, to any word: 5 where the pool has none such. Nothing else but format writes a pool's word.
+fn store(pool: &mut [u64], word: usize, value: u64) -> u64
     ensures { λ r. ⌜ after r (now (pool .exit)) ≡ storeOf word value (now (pool .entry)) ⌝ }
 {
     if pool.len() <= word {
         return 5;
     }
-    set_word(pool, word, value);
+    pool[word] = value;
     0
 }
 
-// The single step: the store at one place of these words and values.
-fn step_in(pool: &mut [u64], words: &[usize], values: &[u64], count: usize, at: usize) -> u64
-    requires { ⌜ (length (now words) ≡ 21) × (length (now values) ≡ 21) ⌝ }
-    ensures { λ r. ⌜ after r (now (pool .exit)) ≡ stepOf (bare (now (words .entry)) (now (values .entry)) count) at (now (pool .entry)) ⌝ }
+// One step makes one store.
+pub fn step(pool: &mut [u64], plan: Plan, at: usize) -> u64
+    ensures { λ r. ⌜ StepGives plan at (now (pool .entry)) (after r (now (pool .exit))) ⌝ }
 {
+    let words = plan.words;
+    let values = plan.values;
+    let count = plan.count;
     if Plan::MOST < count {
         return 5;
     }
@@ -139,29 +100,36 @@ fn step_in(pool: &mut [u64], words: &[usize], values: &[u64], count: usize, at: 
     store(pool, words[at], values[at])
 }
 
-// One step makes one store.
-pub fn step(pool: &mut [u64], plan: Plan, at: usize) -> u64
-    ensures { λ r. ⌜ after r (now (pool .exit)) ≡ stepOf plan at (now (pool .entry)) ⌝ }
+// The first stores of these two lists, so many, one after the other until one is refused; how many were made. No other loop stores to a pool.
+pub fn make<'a>(pool: &mut [u64], words: &'a [usize], values: &'a [u64], most: usize) -> usize
+    requires { ⌜ (most ≤ length (now words)) × (most ≤ length (now values)) ⌝ }
+    ensures { λ r. ⌜ ran r (now (pool .exit)) ≡ makesOf most (storesIn (now (words .entry)) (now (values .entry))) (now (pool .entry)) ⌝ }
 {
-    let words = plan.words;
-    let values = plan.values;
-    let count = plan.count;
-    step_in(pool, &words, &values, count, at)
-}
-
-// The first steps of a plan, at most so many, until one is refused; how many were made.
-pub fn run(pool: &mut [u64], plan: Plan, most: usize) -> usize
-    ensures { λ r. ⌜ ran r (now (pool .exit)) ≡ runOf most plan (now (pool .entry)) ⌝ }
-{
-    let words = plan.words;
-    let values = plan.values;
-    let count = plan.count;
     let mut i: usize = 0;
     while i < most {
-        if step_in(pool, &words, &values, count, i) != 0 {
+        if store(pool, words[i], values[i]) != 0 {
             return i;
         }
         i += 1;
     }
     i
+}
+
+// The smaller of two numbers.
+fn least(a: usize, b: usize) -> usize
+    ensures { λ r. ⌜ r ≡ min a b ⌝ }
+{
+    if a <= b { a } else { b }
+}
+
+// The first steps of a plan, at most so many, until one is refused; how many were made.
+pub fn run(pool: &mut [u64], plan: Plan, most: usize) -> usize
+    ensures { λ r. ⌜ RunGives most plan (now (pool .entry)) (ran r (now (pool .exit))) ⌝ }
+{
+    let words = plan.words;
+    let values = plan.values;
+    if Plan::MOST < plan.count {
+        return 0;
+    }
+    make(pool, &words, &values, least(most, plan.count))
 }

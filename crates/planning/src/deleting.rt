@@ -2,7 +2,9 @@
 ghost use mathlib.Core.Path.{_≡_};
 ghost use Rattle.plan.specs.Plans.{plannedOf};
 ghost use Rattle.removing.specs.Removals.{decidedBy};
-ghost use Rattle.rules.specs.Deletes.{deletePlan};
+ghost use Rattle.rules.specs.Deletes.{deletePlan, PlanDeleteGives};
+ghost use Rattle.planning.specs.Gathered.{Blank, gathered};
+use crate::laid::Laid;
 use plan::Effect;
 use plan::Plan;
 use plan::Planned;
@@ -10,30 +12,67 @@ use pool::Size;
 use removing::Removal;
 use removing::find_removal;
 
-// A removal's stores as a plan.
-fn lay(r: Removal) -> Planned
-    ensures { λ p. ⌜ p ≡ plannedOf (decidedBy r) ⌝ }
+// A removal's stores.
+fn lay_removal(words: &mut [usize], values: &mut [u64], r: Removal) -> Laid
+    requires { ⌜ Blank (now words) (now values) ⌝ }
+    ensures { λ l. ⌜ gathered l (now (words .exit)) (now (values .exit)) ≡ plannedOf (decidedBy r) ⌝ }
 {
     match r {
-        Removal::Refused(number) => Planned::refused(number),
-        Removal::Emptied(at, leaf) => { Planned::made(Plan::one(at, 0, Effect::FreesLeaf(leaf))) }
+        Removal::Refused(number) => Laid::refused(number),
+        Removal::Emptied(at, leaf) => {
+            let count = laying::switching(words, values, at, 0);
+            Laid {
+                number: 0,
+                count,
+                effect: Effect::FreesLeaf(leaf),
+            }
+        }
         Removal::Bypassed(at, child, leaf, node) => {
-            Planned::made(Plan::one(at, child, Effect::FreesBoth(leaf, node)))
+            let count = laying::switching(words, values, at, child);
+            Laid {
+                number: 0,
+                count,
+                effect: Effect::FreesBoth(leaf, node),
+            }
         }
         Removal::Lifted(at, child, word, header, leaf, node) => {
-            let plan = Plan::one(at, child, Effect::FreesBoth(leaf, node));
-            let of_child = [header];
-            Planned::made(plan.then(word, &of_child))
+            let count = laying::lifting(words, values, at, child, word, header);
+            Laid {
+                number: 0,
+                count,
+                effect: Effect::FreesBoth(leaf, node),
+            }
         }
     }
 }
 
-// What a delete stores, in order.
-pub fn plan_delete(pool: &[u64], key: u64) -> Planned
-    ensures { λ r. ⌜ r ≡ plannedOf (deletePlan (now (pool .entry)) key) ⌝ }
+// What a delete stores, in order, laid out in two lists of 21 places that are all 0.
+fn lay_delete(words: &mut [usize], values: &mut [u64], pool: &[u64], key: u64) -> Laid
+    requires { ⌜ Blank (now words) (now values) ⌝ }
+    ensures { λ r. ⌜ gathered r (now (words .exit)) (now (values .exit)) ≡ plannedOf (deletePlan (now (pool .entry)) key) ⌝ }
 {
     let Size::Holds(n) = pool::capacity(pool) else {
-        return Planned::refused(1);
+        return Laid::refused(1);
     };
-    lay(find_removal(pool, n, key))
+    lay_removal(words, values, find_removal(pool, n, key))
+}
+
+// What a delete stores, in order.
+pub fn plan_delete(pool: &[u64], key: u64) -> Planned
+    ensures { λ r. ⌜ PlanDeleteGives (now (pool .entry)) key r ⌝ }
+{
+    let mut words = [0usize; Plan::MOST];
+    let mut values = [0u64; Plan::MOST];
+    let laid = lay_delete(&mut words, &mut values, pool, key);
+    let count = laid.count;
+    let effect = laid.effect;
+    Planned {
+        number: laid.number,
+        plan: Plan {
+            words,
+            values,
+            count,
+            effect,
+        },
+    }
 }

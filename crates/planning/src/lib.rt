@@ -1,8 +1,9 @@
 // The plans of a put and a delete: what each stores, in order.
 mod deleting;
+mod laid;
 mod putting;
-mod splitting;
 
 pub use deleting::plan_delete;
+pub use laid::Laid;
+pub use putting::lay_put;
 pub use putting::plan_put;
-pub use splitting::split_child;

@@ -1,5 +1,6 @@
 -- What a delete stores, in order, in any pool.
 -- Assumes nothing.
+use mathlib.Core.Path.{_≡_}
 use mathlib.Core.List.{List}
 use Prim.Native.Nat.{ℕ, _+_}
 use lib.Dec.{eqb, ltb}
@@ -20,7 +21,8 @@ use Rattle.walk.specs.declared.End.{End}
 use Rattle.walk.specs.declared.End.the-variants.{AtLeaf, AtEmpty, Stopped, Damaged}
 use Rattle.walk.specs.declared.Lowest.{Lowest}
 use Rattle.walk.specs.declared.Lowest.the-variants.{Key, NoKey}
-use Rattle.plan.specs.Plans.{Decided, decided, refused}
+use Rattle.plan.specs.Plans.{Decided, decided, refused, plannedOf}
+use Rattle.plan.specs.declared.Planned.{Planned}
 use Rattle.plan.specs.declared.Effect.the-variants.{FreesLeaf, FreesBoth}
 
 -- one store: a reference to leaf i becomes 0
@@ -86,3 +88,7 @@ deleteIn pool k Wrong = refused 1
 
 unfoldable pub deletePlan : List ℕ → ℕ → Decided
 deletePlan pool k = deleteIn pool k (capacityOf pool)
+
+-- what plan_delete promises
+abbrev pub PlanDeleteGives : List ℕ → ℕ → Planned → Type 0
+PlanDeleteGives pool k p = p ≡ plannedOf (deletePlan pool k)

@@ -1,2 +1,3 @@
 pub mod Puts
 pub mod Deletes
+pub mod Counts

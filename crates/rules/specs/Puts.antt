@@ -1,5 +1,6 @@
 -- What a put stores, in order, in any pool and map.
 -- Assumes nothing.
+use mathlib.Core.Path.{_≡_}
 use mathlib.Core.List.{List, [], _∷_}
 use Prim.Native.Nat.{ℕ, _+_, _-_, _<_}
 use lib.Dec.{eqb, ltb}
@@ -19,7 +20,8 @@ use Rattle.walk.specs.declared.End.{End}
 use Rattle.walk.specs.declared.End.the-variants.{AtLeaf, AtEmpty, Stopped, Damaged}
 use Rattle.walk.specs.declared.Lowest.{Lowest}
 use Rattle.walk.specs.declared.Lowest.the-variants.{Key, NoKey}
-use Rattle.plan.specs.Plans.{Decided, decided, refused}
+use Rattle.plan.specs.Plans.{Decided, decided, refused, plannedOf}
+use Rattle.plan.specs.declared.Planned.{Planned}
 use Rattle.plan.specs.declared.Effect.the-variants.{Nothing, TakesLeaf, TakesBoth}
 use Rattle.rules.specs.declared.Cleft.{Cleft}
 use Rattle.rules.specs.declared.Target.{Target}
@@ -127,3 +129,7 @@ putIn pool map k v Wrong = refused 1
 
 unfoldable pub putPlan : List ℕ → List ℕ → ℕ → ℕ → Decided
 putPlan pool map k v = putIn pool map k v (capacityOf pool)
+
+-- what plan_put promises
+abbrev pub PlanPutGives : List ℕ → List ℕ → ℕ → ℕ → Planned → Type 0
+PlanPutGives pool map k v p = p ≡ plannedOf (putPlan pool map k v)

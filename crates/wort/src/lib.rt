@@ -1,22 +1,23 @@
 // The C interface, as include/wort.h declares it: each function hands on to the library.
 ghost use mathlib.Core.Path.{_≡_};
 ghost use Rattle.digits.specs.Choice.{pick};
-ghost use Rattle.plan.specs.Plans.{after, stepOf};
-ghost use Rattle.finding.specs.Lookups.{answer, lookupOf};
-ghost use Rattle.listing.specs.Listings.{listOf};
-ghost use Rattle.rules.specs.Puts.{putPlan};
-ghost use Rattle.rules.specs.Deletes.{deletePlan};
-ghost use Rattle.writing.specs.Calls.{putOf, deleteOf, formatted, formatOf};
-ghost use Rattle.opening.specs.Openings.{openPlan};
-ghost use Rattle.handing.specs.Plans.{planIn, finishIn, planned, plannedIn};
-ghost use Rattle.wort.specs.Answers.{told, toldOf, stored, storedOf, opening, openingOf};
+ghost use Rattle.plan.specs.Plans.{after, StepGives};
+ghost use Rattle.finding.specs.Lookups.{answer, LookupGives};
+ghost use Rattle.listing.specs.Listings.{told, shown, ListGives};
+ghost use Rattle.rules.specs.Puts.{PlanPutGives};
+ghost use Rattle.rules.specs.Deletes.{PlanDeleteGives};
+ghost use Rattle.writing.specs.Calls.{done, left, PutGives, DeleteGives, formatted, FormatGives};
+ghost use Rattle.opening.specs.Openings.{PlanOpenGives, opened, left as leftOpen, OpenGives};
+ghost use Rattle.handing.specs.Plans.{planIn, FinishInGives, planned, HandedOut};
 use finding::Found;
 use handing::hand_out;
+use handing::lay_plan;
 use handing::taken_in;
+use plan::Plan;
 
 #[no_mangle]
 pub extern "C" fn wort_format(pool: &mut [u64], map: &mut [u8], n: u64) -> u64
-    ensures { λ r. ⌜ formatted r (now (pool .exit)) (now (map .exit)) ≡ formatOf (now (pool .entry)) (now (map .entry)) n ⌝ }
+    ensures { λ r. ⌜ FormatGives (now (pool .entry)) (now (map .entry)) n (formatted r (now (pool .exit)) (now (map .exit))) ⌝ }
 {
     writing::format(pool, map, n)
 }
@@ -28,7 +29,7 @@ pub extern "C" fn wort_open(
     keys: &mut u64,
     headers: &mut u64,
 ) -> u64
-    ensures { λ r. ⌜ opening r (now (keys .exit)) (now (headers .exit)) (now (pool .exit)) (now (map .exit)) ≡ openingOf (now (pool .entry)) (now (map .entry)) ⌝ }
+    ensures { λ r. ⌜ OpenGives (now (pool .entry)) (now (map .entry)) (leftOpen (opened r (now (keys .exit)) (now (headers .exit))) (now (pool .exit)) (now (map .exit))) ⌝ }
 {
     let o = opening::open(pool, map);
     *keys = o.keys as u64;
@@ -38,7 +39,7 @@ pub extern "C" fn wort_open(
 
 #[no_mangle]
 pub extern "C" fn wort_lookup(pool: &[u64], key: u64, value: &mut u64, nodes: &mut u64) -> u64
-    ensures { λ r. ⌜ answer r (now (value .exit)) (now (nodes .exit)) ≡ lookupOf (now (pool .entry)) key ⌝ }
+    ensures { λ r. ⌜ LookupGives (now (pool .entry)) key (answer r (now (value .exit)) (now (nodes .exit))) ⌝ }
 {
     match finding::lookup(pool, key) {
         Found::Hit(v, m) => found(value, nodes, v, m, 0),
@@ -66,7 +67,7 @@ pub extern "C" fn wort_list(
     count: &mut u64,
     more: &mut u64,
 ) -> u64
-    ensures { λ r. ⌜ told r (now (count .exit)) (now (more .exit)) (now (keys .exit)) (now (values .exit)) ≡ toldOf (listOf (now (pool .entry)) from (now (keys .entry)) (now (values .entry))) ⌝ }
+    ensures { λ r. ⌜ ListGives (now (pool .entry)) from (now (keys .entry)) (now (values .entry)) (shown (now (keys .exit)) (now (values .exit)) (told r (now (count .exit)) (now (more .exit)))) ⌝ }
 {
     let l = listing::list(pool, from, keys, values);
     *count = l.count as u64;
@@ -89,7 +90,7 @@ pub extern "C" fn wort_put(
     value: u64,
     stores: &mut u64,
 ) -> u64
-    ensures { λ r. ⌜ stored r (now (stores .exit)) (now (pool .exit)) (now (map .exit)) ≡ storedOf (putOf (now (pool .entry)) (now (map .entry)) key value) ⌝ }
+    ensures { λ r. ⌜ PutGives (now (pool .entry)) (now (map .entry)) key value (left (done r (now (stores .exit))) (now (pool .exit)) (now (map .exit))) ⌝ }
 {
     let d = writing::put(pool, map, key, value);
     *stores = d.stores as u64;
@@ -98,7 +99,7 @@ pub extern "C" fn wort_put(
 
 #[no_mangle]
 pub extern "C" fn wort_delete(pool: &mut [u64], map: &mut [u8], key: u64, stores: &mut u64) -> u64
-    ensures { λ r. ⌜ stored r (now (stores .exit)) (now (pool .exit)) (now (map .exit)) ≡ storedOf (deleteOf (now (pool .entry)) (now (map .entry)) key) ⌝ }
+    ensures { λ r. ⌜ DeleteGives (now (pool .entry)) (now (map .entry)) key (left (done r (now (stores .exit))) (now (pool .exit)) (now (map .exit))) ⌝ }
 {
     let d = writing::delete(pool, map, key);
     *stores = d.stores as u64;
@@ -113,15 +114,19 @@ pub extern "C" fn wort_plan_put(
     value: u64,
     plan: &mut [u64; 46],
 ) -> u64
-    ensures { λ r. ⌜ planned r (now (plan .exit)) ≡ plannedIn (putPlan (now (pool .entry)) (now (map .entry)) key value) ⌝ }
+    ensures { λ r. ⌜ HandedOut (PlanPutGives (now (pool .entry)) (now (map .entry)) key value) (planned r (now (plan .exit))) ⌝ }
 {
-    let p = planning::plan_put(pool, map, key, value);
-    hand_out(plan, p)
+    let mut words = [0usize; Plan::MOST];
+    let mut values = [0u64; Plan::MOST];
+    let laid = planning::lay_put(&mut words, &mut values, pool, map, key, value);
+    let effect = laid.effect;
+    lay_plan(plan, laid.count, effect, &words, &values);
+    laid.number
 }
 
 #[no_mangle]
 pub extern "C" fn wort_plan_delete(pool: &[u64], key: u64, plan: &mut [u64; 46]) -> u64
-    ensures { λ r. ⌜ planned r (now (plan .exit)) ≡ plannedIn (deletePlan (now (pool .entry)) key) ⌝ }
+    ensures { λ r. ⌜ HandedOut (PlanDeleteGives (now (pool .entry)) key) (planned r (now (plan .exit))) ⌝ }
 {
     let p = planning::plan_delete(pool, key);
     hand_out(plan, p)
@@ -129,7 +134,7 @@ pub extern "C" fn wort_plan_delete(pool: &[u64], key: u64, plan: &mut [u64; 46])
 
 #[no_mangle]
 pub extern "C" fn wort_plan_open(pool: &[u64], plan: &mut [u64; 46]) -> u64
-    ensures { λ r. ⌜ planned r (now (plan .exit)) ≡ plannedIn (openPlan (now (pool .entry))) ⌝ }
+    ensures { λ r. ⌜ HandedOut (PlanOpenGives (now (pool .entry))) (planned r (now (plan .exit))) ⌝ }
 {
     let p = opening::plan_open(pool);
     hand_out(plan, p)
@@ -137,14 +142,14 @@ pub extern "C" fn wort_plan_open(pool: &[u64], plan: &mut [u64; 46]) -> u64
 
 #[no_mangle]
 pub extern "C" fn wort_step(pool: &mut [u64], plan: &[u64; 46], at: u64) -> u64
-    ensures { λ r. ⌜ after r (now (pool .exit)) ≡ stepOf (planIn (now (plan .entry))) at (now (pool .entry)) ⌝ }
+    ensures { λ r. ⌜ StepGives (planIn (now (plan .entry))) at (now (pool .entry)) (after r (now (pool .exit))) ⌝ }
 {
     plan::step(pool, taken_in(plan), at as usize)
 }
 
 #[no_mangle]
 pub extern "C" fn wort_finish(map: &mut [u8], plan: &[u64; 46]) -> u64
-    ensures { λ r. ⌜ after r (now (map .exit)) ≡ finishIn (now (plan .entry)) (now (map .entry)) ⌝ }
+    ensures { λ r. ⌜ FinishInGives (now (plan .entry)) (now (map .entry)) (after r (now (map .exit))) ⌝ }
 {
     if 4 < plan[1] {
         return 5;

@@ -1,4 +1,4 @@
--- Whole calls: plan, all stores in order, finish; a refusal leaves everything as it was; each promise has one outcome.
+-- Whole calls: plan, all stores in order, finish; a refusal leaves everything as it was.
 -- Assumes nothing.
 use mathlib.Core.Path.{_≡_, refl, sym, ap, _∙_}
 use mathlib.Core.Logic.{inl, inr}
@@ -16,11 +16,9 @@ use Rattle.pool.specs.Sizes.{sizeOf, capacityOf, bytesOf, Sized}
 use Rattle.pool.specs.declared.Size.{Size}
 use Rattle.pool.specs.declared.Size.the-variants.{Holds, Wrong}
 use Rattle.pool.proofs.Sizes.{size-fits}
-use Rattle.plan.specs.Plans.{Decided, plannedOf}
-use Rattle.plan.specs.declared.Planned.{Planned}
+use Rattle.plan.specs.Plans.{Decided}
 use Rattle.plan.proofs.Laws.{length-made}
 use Rattle.finishing.proofs.Laws.{length-finish}
-use Rattle.writing.specs.declared.making.Done.{Done}
 use Rattle.rules.specs.Puts.{putPlan}
 use Rattle.rules.specs.Deletes.{deletePlan}
 use Rattle.writing.specs.Calls.{Left, done, left, wholeOf, putOf, mappedOf, deleteOf, Formatted, formatted, formatIn, formatOf}
@@ -45,9 +43,6 @@ module _ (d : Decided) (pool map : List ℕ) where
       go (same e q) = rw q (length-made (d .stores) pool, length-finish (d .effect) map)
       go (other n q) = rw q (refl, refl)
 
-left-unique : {x : Left} {r r′ : Done} {p p′ m m′ : List ℕ} → left r p m ≡ x → left r′ p′ m′ ≡ x → (r ≡ r′) × (p ≡ p′) × (m ≡ m′)
-left-unique a b = (ap (λ (x : Left). x .done) (a ∙ sym b), ap (λ (x : Left). x .pool) (a ∙ sym b), ap (λ (x : Left). x .map) (a ∙ sym b))
-
 -- ---- put
 module _ (pool map : List ℕ) (k v : ℕ) where
   pub put-made : {d : Decided} {x : Left} → d ≡ putPlan pool map k v → x ≡ wholeOf d pool map → x ≡ putOf pool map k v
@@ -65,12 +60,6 @@ module _ (pool map : List ℕ) (k v : ℕ) where
   pub put-lengths : (length (putOf pool map k v .pool) ≡ length pool) × (length (putOf pool map k v .map) ≡ length map)
   unfolding putOf
   put-lengths = whole-lengths (putPlan pool map k v) pool map
-
-  pub put-unique : {r r′ : Done} {p p′ m m′ : List ℕ} → left r p m ≡ putOf pool map k v → left r′ p′ m′ ≡ putOf pool map k v → (r ≡ r′) × (p ≡ p′) × (m ≡ m′)
-  put-unique = left-unique
-
-  pub plan-put-unique : {p p′ : Planned} → p ≡ plannedOf (putPlan pool map k v) → p′ ≡ plannedOf (putPlan pool map k v) → p ≡ p′
-  plan-put-unique a b = a ∙ sym b
 
 -- ---- delete
 module _ (pool map : List ℕ) (k : ℕ) where
@@ -107,13 +96,6 @@ module _ (pool map : List ℕ) (k : ℕ) where
   pub delete-lengths : (length (deleteOf pool map k .pool) ≡ length pool) × (length (deleteOf pool map k .map) ≡ length map)
   unfolding deleteOf
   delete-lengths = whole-lengths deleteMapped pool map
-
-  pub delete-unique : {r r′ : Done} {p p′ m m′ : List ℕ} → left r p m ≡ deleteOf pool map k → left r′ p′ m′ ≡ deleteOf pool map k
-      → (r ≡ r′) × (p ≡ p′) × (m ≡ m′)
-  delete-unique = left-unique
-
-pub plan-delete-unique : (pool : List ℕ) (k : ℕ) {p p′ : Planned} → p ≡ plannedOf (deletePlan pool k) → p′ ≡ plannedOf (deletePlan pool k) → p ≡ p′
-plan-delete-unique pool k a b = a ∙ sym b
 
 -- ---- format
 -- a run that is to hold n leaves holds n, or its size is wrong
@@ -173,8 +155,3 @@ module _ (pool map : List ℕ) (n : ℕ) where
               }
           sized false = not-made
       go Wrong = not-made
-
-  pub format-unique : {r r′ : ℕ} {p p′ m m′ : List ℕ} → formatted r p m ≡ formatOf pool map n → formatted r′ p′ m′ ≡ formatOf pool map n
-      → (r ≡ r′) × (p ≡ p′) × (m ≡ m′)
-  format-unique a b =
-      (ap (λ (x : Formatted). x .number) (a ∙ sym b), ap (λ (x : Formatted). x .pool) (a ∙ sym b), ap (λ (x : Formatted). x .map) (a ∙ sym b))

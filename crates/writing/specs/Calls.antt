@@ -1,5 +1,6 @@
 -- The whole calls: format, put and delete, and all that each leaves.
 -- Assumes nothing.
+use mathlib.Core.Path.{_≡_}
 use mathlib.Core.List.{List}
 use Prim.Native.Nat.{ℕ}
 use lib.Dec.{eqb}
@@ -36,6 +37,10 @@ wholeOf d pool map =
 unfoldable pub putOf : List ℕ → List ℕ → ℕ → ℕ → Left
 putOf pool map k v = wholeOf (putPlan pool map k v) pool map
 
+-- what put promises
+abbrev pub PutGives : List ℕ → List ℕ → ℕ → ℕ → Left → Type 0
+PutGives pool map k v l = l ≡ putOf pool map k v
+
 -- a delete is lent the map, which its plan is not: number 1 judges it too
 abbrev pub mappedOf : List ℕ → Size → Decided → Decided
 mappedOf map (Holds n) d = pick (eqb (length map) (bytesOf n)) d (refused 1)
@@ -43,6 +48,10 @@ mappedOf map Wrong d = refused 1
 
 unfoldable pub deleteOf : List ℕ → List ℕ → ℕ → Left
 deleteOf pool map k = wholeOf (mappedOf map (capacityOf pool) (deletePlan pool k)) pool map
+
+-- what delete promises
+abbrev pub DeleteGives : List ℕ → List ℕ → ℕ → Left → Type 0
+DeleteGives pool map k l = l ≡ deleteOf pool map k
 
 -- "Format, given N: word 1 := 0, then word 0 := N, all map bytes 0; other words keep their contents." "format does not judge word 0"
 pub record Formatted : Type 0 where
@@ -62,3 +71,7 @@ formatIn pool map Wrong = formatted 1 pool map
 
 unfoldable pub formatOf : List ℕ → List ℕ → ℕ → Formatted
 formatOf pool map n = formatIn pool map (sizeOf (length pool) n)
+
+-- what format promises
+abbrev pub FormatGives : List ℕ → List ℕ → ℕ → Formatted → Type 0
+FormatGives pool map n f = f ≡ formatOf pool map n

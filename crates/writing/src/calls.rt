@@ -1,6 +1,5 @@
 // The whole calls: find what the call comes to, make its stores in their order, finish.
-ghost use mathlib.Core.Path.{_≡_};
-ghost use Rattle.writing.specs.Calls.{left, putOf, deleteOf, formatted, formatOf};
+ghost use Rattle.writing.specs.Calls.{left, PutGives, DeleteGives, formatted, FormatGives};
 use crate::making::Done;
 use crate::making::put_at;
 use crate::making::remove;
@@ -10,7 +9,7 @@ use removing::find_removal;
 
 // Gives a key its value.
 pub fn put(pool: &mut [u64], map: &mut [u8], key: u64, value: u64) -> Done
-    ensures { λ r. ⌜ left r (now (pool .exit)) (now (map .exit)) ≡ putOf (now (pool .entry)) (now (map .entry)) key value ⌝ }
+    ensures { λ r. ⌜ PutGives (now (pool .entry)) (now (map .entry)) key value (left r (now (pool .exit)) (now (map .exit))) ⌝ }
 {
     let Size::Holds(n) = pool::capacity(pool) else {
         return Done::refused(1);
@@ -24,7 +23,7 @@ pub fn put(pool: &mut [u64], map: &mut [u8], key: u64, value: u64) -> Done
 
 // Takes a key out.
 pub fn delete(pool: &mut [u64], map: &mut [u8], key: u64) -> Done
-    ensures { λ r. ⌜ left r (now (pool .exit)) (now (map .exit)) ≡ deleteOf (now (pool .entry)) (now (map .entry)) key ⌝ }
+    ensures { λ r. ⌜ DeleteGives (now (pool .entry)) (now (map .entry)) key (left r (now (pool .exit)) (now (map .exit))) ⌝ }
 {
     let Size::Holds(n) = pool::capacity(pool) else {
         return Done::refused(1);
@@ -38,7 +37,7 @@ pub fn delete(pool: &mut [u64], map: &mut [u8], key: u64) -> Done
 
 // Makes an empty pool of n leaves: word 1, then word 0, then the map.
 pub fn format(pool: &mut [u64], map: &mut [u8], n: u64) -> u64
-    ensures { λ r. ⌜ formatted r (now (pool .exit)) (now (map .exit)) ≡ formatOf (now (pool .entry)) (now (map .entry)) n ⌝ }
+    ensures { λ r. ⌜ FormatGives (now (pool .entry)) (now (map .entry)) n (formatted r (now (pool .exit)) (now (map .exit))) ⌝ }
 {
     let Size::Holds(leaves) = pool::size_of(pool.len(), n) else {
         return 1;

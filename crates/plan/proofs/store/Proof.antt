@@ -7,14 +7,8 @@ use Rattle.plan.proofs.store.Tie as tie
 returns : tie.Need-returns
 returns c = simp (le-ltb _ _ (c .if1 .taken))
 
-set-word-requires : tie.Need-set-word-requires
-set-word-requires c κs = search needs
-
-same-length : tie.Need-same-length
-same-length c = search needs
-
 returns-2 : tie.Need-returns-2
-returns-2 c = rw (c .before .before .set-word .ensures, lt-ltb _ _ (c .before .before .before .before .if1 .left))
+returns-2 c = simp (lt-ltb _ _ (c .if1 .left))
 
 pub store-spec : {M : Type 1} → statement M
-store-spec = tie.close (tie.spec returns set-word-requires same-length returns-2)
+store-spec = tie.close (tie.spec returns (λ c. search needs) (λ c. search needs) (λ c. search needs) returns-2)

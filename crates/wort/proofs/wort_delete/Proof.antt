@@ -1,7 +1,5 @@
 -- `wort_delete` hands out what `delete` answers. Assumes nothing.
 use borrow.Author.Needs.{needs}
-use mathlib.Core.Path.{ap}
-use Rattle.wort.specs.Answers.{storedOf}
 use Rattle.wort.proofs.wort_delete.Statement.{statement}
 use Rattle.wort.proofs.wort_delete.Tie as tie
 
@@ -15,7 +13,7 @@ same-length-2 : tie.Need-same-length-2
 same-length-2 c = search needs
 
 returns : tie.Need-returns
-returns c = ap storedOf (c .before .before .before .before .delete .ensures)
+returns c = c .before .before .before .before .delete .ensures
 
 pub wort-delete-spec : {M : Type 1} → statement M
 wort-delete-spec = tie.close (tie.spec delete-requires same-length same-length-2 returns)

@@ -1,8 +1,5 @@
 -- `wort_open` hands out what `open` answers. Assumes nothing.
 use borrow.Author.Needs.{needs}
-use mathlib.Core.Path.{ap}
-use Rattle.opening.specs.Openings.{Left}
-use Rattle.wort.specs.Answers.{opening}
 use Rattle.wort.proofs.wort_open.Statement.{statement}
 use Rattle.wort.proofs.wort_open.Tie as tie
 
@@ -16,9 +13,7 @@ same-length-2 : tie.Need-same-length-2
 same-length-2 c = search needs
 
 returns : tie.Need-returns
-returns c =
-    ap (λ (l : Left). opening (l .answer .number) (l .answer .keys) (l .answer .headers) (l .pool) (l .map))
-    (c .before .before .before .before .«open» .ensures)
+returns c = c .before .before .before .before .«open» .ensures
 
 pub wort-open-spec : {M : Type 1} → statement M
 wort-open-spec = tie.close (tie.spec open-requires same-length same-length-2 returns)

@@ -10,7 +10,7 @@ hand-out-requires : tie.Need-hand-out-requires
 hand-out-requires c κs = search needs
 
 returns : tie.Need-returns
-returns c = rw (c .before .before .plan-delete .ensures) at (c .hand-out .ensures)
+returns c = (c .before .before .plan-delete .result, c .before .before .plan-delete .ensures, c .hand-out .ensures)
 
 pub wort-plan-delete-spec : {M : Type 1} → statement M
 wort-plan-delete-spec = tie.close (tie.spec plan-delete-requires hand-out-requires returns)

@@ -10,7 +10,7 @@ hand-out-requires : tie.Need-hand-out-requires
 hand-out-requires c κs = search needs
 
 returns : tie.Need-returns
-returns c = rw (c .before .before .plan-open .ensures) at (c .hand-out .ensures)
+returns c = (c .before .before .plan-open .result, c .before .before .plan-open .ensures, c .hand-out .ensures)
 
 pub wort-plan-open-spec : {M : Type 1} → statement M
 wort-plan-open-spec = tie.close (tie.spec plan-open-requires hand-out-requires returns)

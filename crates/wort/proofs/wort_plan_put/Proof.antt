@@ -1,16 +1,23 @@
--- `wort_plan_put` hands out what `plan_put` answers. Assumes nothing.
+-- `wort_plan_put` writes out what `lay_put` lays out. Assumes nothing.
+use mathlib.Core.Path.{ap}
 use borrow.Author.Needs.{needs}
+use Rattle.handing.specs.Plans.{planned}
 use Rattle.wort.proofs.wort_plan_put.Statement.{statement}
 use Rattle.wort.proofs.wort_plan_put.Tie as tie
 
-plan-put-requires : tie.Need-plan-put-requires
-plan-put-requires c κs = search needs
-
-hand-out-requires : tie.Need-hand-out-requires
-hand-out-requires c κs = search needs
-
 returns : tie.Need-returns
-returns c = rw (c .before .before .plan-put .ensures) at (c .hand-out .ensures)
+returns c =
+    let laid = c .before .before .before .before .before .before in
+    (_, laid .lay-put .ensures, ap (planned (laid .lay-put .result .number)) (c .lay-plan .ensures))
 
 pub wort-plan-put-spec : {M : Type 1} → statement M
-wort-plan-put-spec = tie.close (tie.spec plan-put-requires hand-out-requires returns)
+wort-plan-put-spec =
+    tie.close
+    (tie.spec
+    (λ c. search needs)
+    (λ c. search needs)
+    (λ c κs. search needs)
+    (λ c. search needs)
+    (λ c. search needs)
+    (λ c κs. search needs)
+    returns)

@@ -1,7 +1,5 @@
 -- `wort_put` hands out what `put` answers. Assumes nothing.
 use borrow.Author.Needs.{needs}
-use mathlib.Core.Path.{ap}
-use Rattle.wort.specs.Answers.{storedOf}
 use Rattle.wort.proofs.wort_put.Statement.{statement}
 use Rattle.wort.proofs.wort_put.Tie as tie
 
@@ -15,7 +13,7 @@ same-length-2 : tie.Need-same-length-2
 same-length-2 c = search needs
 
 returns : tie.Need-returns
-returns c = ap storedOf (c .before .before .before .before .put .ensures)
+returns c = c .before .before .before .before .put .ensures
 
 pub wort-put-spec : {M : Type 1} → statement M
 wort-put-spec = tie.close (tie.spec put-requires same-length same-length-2 returns)

@@ -1,6 +1,8 @@
 -- `delete` judges the map, finds what the delete comes to, and makes it. Assumes nothing.
 use mathlib.Core.Path.{sym, _∙_}
 use native.Mathlib.Omega.{arith}
+use Rattle.rules.proofs.Fits.{delete-inside}
+use Rattle.writing.proofs.Makings.{fitting}
 use Rattle.writing.proofs.Wholes.{delete-unsized-whole, delete-unmapped, delete-made}
 use borrow.Author.Needs.{needs}
 use Rattle.writing.proofs.calls.delete.Statement.{statement}
@@ -48,7 +50,10 @@ find-removal-requires c κs =
     (rw (at-n .n .given .1) at (at-capacity .capacity .ensures .1), sym (at-capacity .capacity .ensures .0) ∙ at-n .n .given .1)
 
 remove-requires : tie.Need-remove-requires
-remove-requires c κs = search needs
+remove-requires c κs =
+    let at-find-removal = c .before .before in
+    let a = at-find-removal .before .before .before .before .before .before .before .before .before .before .args in
+    fitting (a .pool .now) (at-find-removal .find-removal .ensures) (delete-inside (a .pool .now) (a .key))
 
 same-length-3 : tie.Need-same-length-3
 same-length-3 c = search needs

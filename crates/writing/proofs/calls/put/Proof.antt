@@ -1,7 +1,8 @@
 -- `put` judges the sizes, finds the place and makes the put there. Assumes nothing.
 use native.Mathlib.Omega.{arith}
+use Rattle.rules.proofs.Fits.{put-inside}
 use Rattle.placing.proofs.Puts.{put-unsized, put-unmapped, put-placed}
-use Rattle.writing.proofs.Makings.{whole-none}
+use Rattle.writing.proofs.Makings.{fitting, whole-none}
 use Rattle.writing.proofs.Wholes.{put-made}
 use borrow.Author.Needs.{needs}
 use Rattle.writing.proofs.calls.put.Statement.{statement}
@@ -56,7 +57,15 @@ put-at-requires c κs =
     let at-n = at-if1 .before .before in
     let at-capacity = at-n .before .before in
     let z = rw (at-n .n .given .1) at (at-capacity .capacity .ensures .1) in
-    (z .some, z .most, at-if1 .if1 .left, at-find-place .find-place .ensures .able, z)
+    let a = at-capacity .before .before .before .before .args in (
+      z .some,
+      z .most,
+      at-if1 .if1 .left,
+      at-find-place .find-place .ensures .able,
+      fitting (a .pool .now)
+          (put-placed _ _ _ _ (at-capacity .capacity .ensures .0) (at-n .n .given .1) (at-if1 .if1 .left) (at-find-place .find-place .ensures))
+          (put-inside (a .pool .now) (a .map .now) (a .key) (a .value)),
+    )
 
 same-length-3 : tie.Need-same-length-3
 same-length-3 c = search needs

@@ -1,75 +1,44 @@
 -- `put_at` goes by the place. Assumes nothing.
-use mathlib.Core.Path.{refl}
 use native.Mathlib.Omega.{arith}
-use Rattle.plan.specs.declared.Effect.the-variants.{Nothing}
-use Rattle.writing.proofs.Makings.{whole-none, one-made}
 use borrow.Author.Needs.{needs}
+use Rattle.writing.proofs.Makings.{whole-none}
 use Rattle.writing.proofs.making.put_at.Statement.{statement}
 use Rattle.writing.proofs.making.put_at.Tie as tie
 
-enum-known-place : tie.Need-enum-known-place
-enum-known-place c = search needs
+put-held-requires : tie.Need-put-held-requires
+put-held-requires c κs =
+    let place = c .before .before .before in
+    let pre = place .before .before .before .before .pre in
+    let h = rw (place .place .given .1) at (pre .3) in
+    (omega arith, rw (place .place .given .1) at (pre .4))
 
-leaf-word-requires : tie.Need-leaf-word-requires
-leaf-word-requires c κs = let h = rw (c .before .before .place .given .1) at (c .before .before .before .before .before .before .pre .3) in omega arith
+put-grow-requires : tie.Need-put-grow-requires
+put-grow-requires c κs =
+    let place = c .before .before .before in
+    let pre = place .before .before .before .before .pre in
+    (pre .1, pre .2, pre .0, rw (place .place2 .given .1) at (pre .4))
 
-add-store : tie.Need-add-store
-add-store c = search needs
-
-store-requires : tie.Need-store-requires
-store-requires c κs = search needs
-
-enum-known-place-2 : tie.Need-enum-known-place-2
-enum-known-place-2 c = search needs
-
-make-grow-requires : tie.Need-make-grow-requires
-make-grow-requires c κs = search needs
-
-enum-known-place-3 : tie.Need-enum-known-place-3
-enum-known-place-3 c = search needs
-
-make-split-requires : tie.Need-make-split-requires
-make-split-requires c κs =
-    let at-place3 = c .before .before .before in
-    let start = at-place3 .before .before .before .before in
-    let h = rw (at-place3 .place3 .given .1) at (start .pre .3) in
-    (start .pre .1, start .pre .2, start .pre .0, h .0, h .1, h .2, start .pre .4)
-
-enum-known-place-4 : tie.Need-enum-known-place-4
-enum-known-place-4 c = search needs
-
-refused-requires : tie.Need-refused-requires
-refused-requires c κs = search needs
-
-same-length : tie.Need-same-length
-same-length c = search needs
+put-split-requires : tie.Need-put-split-requires
+put-split-requires c κs =
+    let place = c .before .before .before in
+    let pre = place .before .before .before .before .pre in
+    let h = rw (place .place3 .given .1) at (pre .3) in
+    (pre .1, pre .2, pre .0, (h .0, h .1), h .2, rw (place .place3 .given .1) at (pre .4))
 
 returns : tie.Need-returns
 returns c =
-    let at-store = c .before .before in
-    let at-leaf-word = at-store .before in
-    let at-place = at-leaf-word .before .before .before in
-    let start = at-place .before .before .before .before in
-    rw (at-place .place .given .1, ← at-leaf-word .leaf-word .ensures)
-    (one-made (start .args .pool .now) (start .args .map .now) _ _ Nothing (at-store .store .ensures) refl)
-
-same-length-2 : tie.Need-same-length-2
-same-length-2 c = search needs
-
-same-length-3 : tie.Need-same-length-3
-same-length-3 c = search needs
+    let whole = c .before .before .before .before in
+    rw (whole .before .before .before .before .place .given .1) (whole .put-held .ensures)
 
 returns-2 : tie.Need-returns-2
-returns-2 c = rw (c .before .before .before .before .before .before .before .before .place2 .given .1) (c .before .before .before .before .make-grow .ensures)
-
-same-length-4 : tie.Need-same-length-4
-same-length-4 c = search needs
-
-same-length-5 : tie.Need-same-length-5
-same-length-5 c = search needs
+returns-2 c =
+    let whole = c .before .before .before .before in
+    rw (whole .before .before .before .before .place2 .given .1) (whole .put-grow .ensures)
 
 returns-3 : tie.Need-returns-3
-returns-3 c = rw (c .before .before .before .before .before .before .before .before .place3 .given .1) (c .before .before .before .before .make-split .ensures)
+returns-3 c =
+    let whole = c .before .before .before .before in
+    rw (whole .before .before .before .before .place3 .given .1) (whole .put-split .ensures)
 
 returns-4 : tie.Need-returns-4
 returns-4 c = rw (c .before .before .place4 .given .1, c .refused .ensures) (whole-none _ _ _)
@@ -78,22 +47,21 @@ pub put-at-spec : {M : Type 1} → statement M
 put-at-spec =
     tie.close
     (tie.spec
-    enum-known-place
-    leaf-word-requires
-    add-store
-    store-requires
-    enum-known-place-2
-    make-grow-requires
-    enum-known-place-3
-    make-split-requires
-    enum-known-place-4
-    refused-requires
-    same-length
+    (λ c. search needs)
+    put-held-requires
+    (λ c. search needs)
+    put-grow-requires
+    (λ c. search needs)
+    put-split-requires
+    (λ c. search needs)
+    (λ c κs. search needs)
+    (λ c. search needs)
+    (λ c. search needs)
     returns
-    same-length-2
-    same-length-3
+    (λ c. search needs)
+    (λ c. search needs)
     returns-2
-    same-length-4
-    same-length-5
+    (λ c. search needs)
+    (λ c. search needs)
     returns-3
     returns-4)

@@ -1,0 +1,26 @@
+-- A plan from C comes back as the plan that went out. Assumes nothing.
+use mathlib.Core.Path.{_≡_, _∙_}
+use Rattle.plan.specs.Plans.{Decided, plannedOf}
+use Rattle.plan.proofs.Laws.{plan-places}
+use Rattle.rules.specs.Puts.{putPlan}
+use Rattle.rules.specs.Deletes.{deletePlan}
+use Rattle.opening.specs.Openings.{openPlan}
+use Rattle.handing.specs.Plans.{PlannedWords, HandedOut}
+use Rattle.handing.proofs.Returns.{plan-returns, finish-returns}
+use Rattle.demands.specs.FromC.{takenIn, Returns}
+
+-- every plan that is decided has 21 places
+planned-returns : (d : Decided) (w : PlannedWords) → HandedOut (λ p. p ≡ plannedOf d) w → takenIn w ≡ plannedOf d
+planned-returns d w h =
+    let places = plan-places (d .stores) (d .effect) in
+    rw (h .2, h .1, plan-returns (plannedOf d .plan) (places .0) (places .1))
+
+pub returns : Returns
+returns = record {
+  plan = λ p h. plan-returns p (h .0) (h .1);
+  step = λ p h at pool a e. rw (plan-returns p (h .0) (h .1)) at e;
+  finish = λ p map a e. e ∙ finish-returns p map;
+  put = λ pool map k v w. planned-returns (putPlan pool map k v) w;
+  delete = λ pool k w. planned-returns (deletePlan pool k) w;
+  opening = λ pool w. planned-returns (openPlan pool) w;
+}
