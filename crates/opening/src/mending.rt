@@ -60,7 +60,7 @@ fn fresh_header(pool: &[u64], n: usize, w: usize, j: usize) -> Fresh
     let Lowest::Key(near) = walk::lowest_leaf(pool, n, w, pool::node_ref(j)) else {
         return Fresh::NoHeader;
     };
-    Fresh::Header(survey::pack(w, b - w, near))
+    Fresh::Header(Header::pack(w, b - w, near))
 }
 
 // The store that mends node j, met at walk depth w, as a plan.

@@ -1,4 +1,3 @@
-pub mod Shifts
 pub mod Loops
 pub mod Surveys
 pub mod Turns

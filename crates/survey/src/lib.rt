@@ -7,11 +7,7 @@ ghost use Rattle.pool.specs.Sizes.{Sized, bytesOf};
 ghost use Rattle.pool.specs.Places.{headerAt};
 ghost use Rattle.walk.specs.Walks.{headOf};
 ghost use Rattle.survey.specs.Surveys.{survey, census, leafMet, gather, joinOf, Accepted, headJudged, nodeMet, surveyFrom, surveyOf, Gives, Found};
-
-mod packing;
-
 use digits::Header;
-pub use packing::pack;
 use pool::Ref;
 use walk::Head;
 
@@ -92,7 +88,7 @@ fn judge_header(word: u64, first: u64, last: u64) -> Census
     let h = Header::unpack(word);
     Census {
         last,
-        sound: pack(h.depth, h.length, first) == word,
+        sound: Header::pack(h.depth, h.length, first) == word,
     }
 }
 
