@@ -4,7 +4,7 @@
 #include <stdbool.h>
 #include <string.h>
 
-enum { DONE, SIZE, DAMAGE, ABSENT, NO_ROOM, NO_STEP, BUFFERS };
+enum { DONE, SIZE, DAMAGE, ABSENT, NO_ROOM, NO_STEP, BUFFERS, RETIRED };
 enum { NOTHING, TAKES_LEAF, TAKES_LEAF_AND_NODE, FREES_LEAF, FREES_LEAF_AND_NODE };
 enum { COUNT, EFFECT, LEAF_BYTE, NODE_BYTE, PLACES, VALUES = PLACES + 21 };
 
@@ -231,6 +231,8 @@ uint64_t plain_put(uint64_t *pool, size_t words, uint8_t *map, size_t bytes, uin
     *stores = 0;
     if (!n)
         return SIZE;
+    if (!value)
+        return RETIRED;
     enum fitting fitting = find_fit(pool, n, key, &fit);
     if (fitting == UNFIT)
         return DAMAGE;
@@ -578,6 +580,8 @@ uint64_t plain_plan_put(const uint64_t *pool, size_t words, const uint8_t *map, 
     memset(plan, 0, PLAIN_PLAN * sizeof *plan);
     if (!n)
         return SIZE;
+    if (!value)
+        return RETIRED;
     enum fitting fitting = find_fit(pool, n, key, &fit);
     if (fitting == UNFIT)
         return DAMAGE;

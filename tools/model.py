@@ -1,5 +1,5 @@
 #!/usr/bin/env python3
-"""An independent model of the program `names`, written from the words of document 01 and its rulings, in another language than the product.
+"""An independent model of the program `names`, written from the words of documents 01 and 02 and the rulings on them, in another language than the product.
 
     model.py < script > answers
 
@@ -126,6 +126,8 @@ def lookup(pool, key):
 
 def plan_put(pool, map_, key, value):
     """Number, stores, what they do to the map."""
+    if value == 0:  # "Puts of file number 0 are refused, for new and held keys alike."
+        return 7, [], {}
     try:
         walk = Walk(pool, key)
         if walk.end[0] == "damage":

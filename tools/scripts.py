@@ -123,6 +123,12 @@ def mixed(random_):
     return lines + ["L"]
 
 
+def retired():
+    """File number 0: refused for a new key, a held one and under a cut, which is used up."""
+    lines = [put(0x200, 0), put(0x200, 1), put(0x200, 0), get(0x200), cut(3), put(0x202, 0), get(0x202), cut(1), put(0x200, 0)]
+    return lines + [put(0x202, 2), delete(0x200), put(0x200, 0), "L"]
+
+
 def text(lines):
     return "".join(line + "\n" for line in lines).encode()
 
@@ -162,6 +168,7 @@ def scripts():
         "21-last-line-wrong": text([put(0x200, 1)]) + b"L\t",
         "22-last-line-cut": text([put(0x200, 1), cut(1)]) + delete(0x200).encode(),
         "23-cut-waits": text([put(0x200, 1)]) + cut(3).encode(),
+        "24-retired": text(retired()),
     }
 
 
@@ -180,8 +187,9 @@ def main(crate):
     data = os.path.join(crate, "data")
     for name, script in scripts().items():
         write(os.path.join(data, name + ".in"), script)
-        write(os.path.join(data, name + ".out"), model.run(script))
     names = sorted(f[:-3] for f in os.listdir(data) if f.endswith(".in"))
+    for name in names:  # those that were given with document 01 too: 02 (x) answers their puts of 0 otherwise
+        write(os.path.join(data, name + ".out"), model.run(read(os.path.join(data, name + ".in"))))
     write(os.path.join(crate, "stdin"), text(line for name in names for line in (name + ".in", name + ".out")))
     write(os.path.join(crate, "stdout"), text(name + ".in answers as expected" for name in names))
 

@@ -14,6 +14,8 @@ pub const NO_ROOM: u64 = 4;
 pub const NO_STEP: u64 = 5;
 /// Listing buffers of length 0 or of unequal length.
 pub const BUFFERS: u64 = 6;
+/// A put of file number 0: reserved names are retired.
+pub const RETIRED: u64 = 7;
 
 /// A pool's capacity is 1 to this many leaves.
 pub const MOST_LEAVES: u64 = 1024;

@@ -62,8 +62,9 @@ impl<'a, C: Calls> Crash<'a, C> {
 
     fn some_operation(&mut self) -> Operation {
         let key = self.chance.pick(&self.keys);
-        match self.chance.below(5) {
-            0 | 1 => Operation::Delete(key),
+        match self.chance.below(20) {
+            0..=7 => Operation::Delete(key),
+            8 => Operation::Put(key, 0),
             _ => Operation::Put(key, self.chance.word()),
         }
     }

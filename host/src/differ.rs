@@ -228,8 +228,16 @@ impl Differ {
         self.twin.values.resize(values, !old);
     }
 
+    /// A file number, now and then the 0 of a retired name.
+    fn value(&mut self) -> u64 {
+        match self.chance.below(8) {
+            0 => 0,
+            _ => self.chance.word(),
+        }
+    }
+
     fn put(&mut self) -> Result<(), String> {
-        let (key, value) = (self.key(), self.chance.word());
+        let (key, value) = (self.key(), self.value());
         let (pool, map) = (self.lent.pool.run_mut(), self.lent.map.run_mut());
         let ours = Library.put(pool, map, key, value);
         let theirs = Model.put(&mut self.twin.pool, &mut self.twin.map, key, value);
@@ -245,7 +253,7 @@ impl Differ {
     }
 
     fn plan_put(&mut self) -> Result<(), String> {
-        let (key, value) = (self.key(), self.chance.word());
+        let (key, value) = (self.key(), self.value());
         let ours = self.read(|pool, map| Library.plan_put(pool, map, key, value));
         let theirs = Model.plan_put(&self.twin.pool, &self.twin.map, key, value);
         self.keep(&theirs.plan);

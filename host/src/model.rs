@@ -93,7 +93,7 @@ fn key_place(leaf: usize) -> usize {
     2 + 2 * leaf
 }
 
-fn value_place(leaf: usize) -> usize {
+pub fn value_place(leaf: usize) -> usize {
     3 + 2 * leaf
 }
 
@@ -340,6 +340,10 @@ fn fit_beside(walk: &Walk, k2: u64, f: u64) -> Option<Fit> {
 
 fn put_plan(pool: &[u64], map: &[u8], k: u64, v: u64) -> Result<Plan, u64> {
     let n = capacity_with_map(pool, map).ok_or(SIZE)?;
+    // 02 (x): "Puts of file number 0 are refused, for new and held keys alike." "7, after 1 and before 2"
+    if v == 0 {
+        return Err(RETIRED);
+    }
     let (leaves, nodes) = map.split_at(n);
     match fit(pool, n, k).ok_or(DAMAGE)? {
         Fit::Held(leaf) => Ok(plan_of(&[(value_place(leaf), v)], Effect::Nothing)),

@@ -2,7 +2,7 @@
 
 use crate::answers::*;
 use crate::chance::Chance;
-use crate::model::{child_place, digit, header, header_place, survey, Model, FIRST_NODE};
+use crate::model::{child_place, digit, header, header_place, survey, value_place, Model, FIRST_NODE};
 
 const ROOT: usize = 1;
 
@@ -84,6 +84,12 @@ pub fn sound(chance: &mut Chance, n: usize) -> Made {
             Model.delete(&mut pool, &mut map, key);
         } else {
             Model.put(&mut pool, &mut map, key, chance.word());
+        }
+    }
+    // Names that were reserved before puts of 0 were refused: such entries in existing pools stay.
+    for leaf in 0..n {
+        if chance.one_in(8) {
+            pool[value_place(leaf)] = 0;
         }
     }
     Made { n, pool, map, keys }

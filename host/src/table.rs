@@ -23,6 +23,7 @@ impl Operation {
     /// The number that demand 2 gives on a sound pool of capacity `n` with a true map.
     pub fn number(self, table: &Table, n: usize) -> u64 {
         match self {
+            Operation::Put(_, 0) => RETIRED,
             Operation::Put(key, _) if table.len() == n && !table.contains_key(&key) => NO_ROOM,
             Operation::Delete(key) if !table.contains_key(&key) => ABSENT,
             Operation::Put(..) | Operation::Delete(_) => DONE,

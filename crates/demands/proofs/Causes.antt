@@ -23,7 +23,7 @@ use Rattle.finishing.specs.Finishes.{storesOf, finishOf}
 use Rattle.plan.specs.declared.Plan.{Plan}
 use Rattle.finding.specs.Lookups.{Answer, answer, foundIn, lookupOf}
 use Rattle.listing.specs.Listings.{Shown, shown, listed, listIn, listOf}
-use Rattle.rules.specs.Puts.{putAt, putIn, putPlan}
+use Rattle.rules.specs.Puts.{putAt, putFile, putIn, putPlan}
 use Rattle.rules.specs.Deletes.{deleteIn, deletePlan}
 use Rattle.writing.specs.Calls.{mappedOf, Formatted, formatIn, formatOf}
 use Rattle.writing.proofs.Wholes.{size-same, put-whole-number, deleteMapped, delete-whole-number}
@@ -35,9 +35,9 @@ use Rattle.survey.proofs.HeldSurvey.{held-sound}
 use Rattle.opening.specs.Openings.{mendFirst, openIn, openPlan, opened, Left, left, restored, leftJudged, leftIn, openOf}
 use Rattle.opening.proofs.Answers.{plan-modest}
 use Rattle.demands.specs.Ways.{Lookup, Delete, Put, Listing}
-use Rattle.demands.specs.Causes.{Exactly, Asks, so, not-so, Fits, FitsMap, After, Named, Causes}
+use Rattle.demands.specs.Causes.{Exactly, Asks, so, not-so, Fits, FitsMap, After, Retires, Named, Causes}
 use Rattle.demands.proofs.Ways.{sized-holds, fits-holds}
-use Rattle.demands.proofs.Exactly.{wrong-holds, exactly, after-pool, after-map, asked}
+use Rattle.demands.proofs.Exactly.{wrong-holds, exactly, after-pool, after-map, asked, retires}
 use Rattle.demands.proofs.LookupCauses.{lookup-is, lookup-some}
 use Rattle.demands.proofs.DeleteCauses.{delete-is, delete-some}
 use Rattle.demands.proofs.PutCauses.{put-is, put-some}
@@ -63,11 +63,12 @@ module _ (pool : List ℕ) where
       (λ n z. exactly (Listing pool n from (length ks) (length vs)) (list-some pool n from ks vs) (list-is pool n from ks vs))
 
   -- ---- put and delete
-  plan-put-causes : (bytes : List ℕ) (k v : ℕ) → Exactly (putPlan pool bytes k v .number) (After 1 (FitsMap pool bytes) (λ n. Put pool n bytes k))
+  plan-put-causes : (bytes : List ℕ) (k v : ℕ)
+      → Exactly (putPlan pool bytes k v .number) (After 1 (FitsMap pool bytes) (λ n. Retires v (Put pool n bytes k)))
   unfolding putPlan
   plan-put-causes bytes k v =
-      after-map number (refused 1) (λ n. Put pool n bytes k) pool (putIn pool bytes k v) refl bytes (λ n. putAt pool bytes n k v (walkOf pool n k)) (λ n. refl)
-      (λ n z. exactly (Put pool n bytes k) (put-some pool n bytes k v) (put-is pool n bytes k v))
+      after-map number (refused 1) (λ n. Retires v (Put pool n bytes k)) pool (putIn pool bytes k v) refl bytes (λ n. putFile pool bytes n k v) (λ n. refl)
+      (λ n z. retires (putAt pool bytes n k v (walkOf pool n k)) v (Put pool n bytes k) (exactly (Put pool n bytes k) (put-some pool n bytes k v) (put-is pool n bytes k v)))
 
   plan-delete-causes : (k : ℕ) → Exactly (deletePlan pool k .number) (After 1 (Fits pool) (λ n. Delete pool n k))
   unfolding deletePlan

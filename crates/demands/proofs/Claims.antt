@@ -13,6 +13,7 @@ use Rattle.demands.proofs.Opening.{opens}
 use Rattle.demands.proofs.Unique.{unique}
 use Rattle.demands.proofs.Cases.{cases-hold}
 use Rattle.demands.proofs.StoreLists.{store-lists-hold}
+use Rattle.demands.proofs.Retired.{retired-hold}
 
 pub claims : Claims
 claims = record {
@@ -31,4 +32,5 @@ claims = record {
   one-outcome = unique;
   examples = cases-hold;
   store-lists = store-lists-hold;
+  retired-names = retired-hold;
 }

@@ -217,8 +217,8 @@ demand1 = record {
   lookup = λ pool k a e. rw e (looked (lookup-answers pool k));
   list = λ pool from ks vs s e. rw e (shows pool from ks vs (list-answers pool from ks vs));
   plan-put = λ pool map k v p.
-      plans (0 ∷ 1 ∷ 2 ∷ 4 ∷ []) pool (putPlan pool map k v) (put-few pool map k v) (put-inside pool map k v)
-      (one-of (0 ∷ 1 ∷ 2 ∷ 4 ∷ []) (putPlan pool map k v .number) (put-number pool map k v)) (put-refusal pool map k v);
+      plans (0 ∷ 1 ∷ 2 ∷ 4 ∷ 7 ∷ []) pool (putPlan pool map k v) (put-few pool map k v) (put-inside pool map k v)
+      (one-of (0 ∷ 1 ∷ 2 ∷ 4 ∷ 7 ∷ []) (putPlan pool map k v .number) (put-number pool map k v)) (put-refusal pool map k v);
   plan-delete = λ pool k p.
       plans (0 ∷ 1 ∷ 2 ∷ 3 ∷ []) pool (deletePlan pool k) (delete-few pool k) (delete-inside pool k)
       (one-of (0 ∷ 1 ∷ 2 ∷ 3 ∷ []) (deletePlan pool k .number) (delete-number pool k)) (delete-refusal pool k);
@@ -226,8 +226,8 @@ demand1 = record {
       plans (0 ∷ 1 ∷ 2 ∷ []) pool (openPlan pool) (omega (arith, plan-modest pool .one)) (plan-modest pool .inside)
       (up-to-two (openPlan pool .number) (plan-modest pool .number≤)) (open-plan-refused pool);
   put = λ pool map k v l e. rw e (record {
-    number = subst (OneOf (0 ∷ 1 ∷ 2 ∷ 4 ∷ [])) (sym (put-whole-number pool map k v))
-        (one-of (0 ∷ 1 ∷ 2 ∷ 4 ∷ []) (putPlan pool map k v .number) (put-number pool map k v));
+    number = subst (OneOf (0 ∷ 1 ∷ 2 ∷ 4 ∷ 7 ∷ [])) (sym (put-whole-number pool map k v))
+        (one-of (0 ∷ 1 ∷ 2 ∷ 4 ∷ 7 ∷ []) (putPlan pool map k v .number) (put-number pool map k v));
     refusal = λ z. left-kept (put-refused pool map k v (λ e. z (put-whole-number pool map k v ∙ e)));
     same-words = put-lengths pool map k v .0;
     same-bytes = put-lengths pool map k v .1;

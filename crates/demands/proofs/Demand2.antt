@@ -18,7 +18,7 @@ use Rattle.demands.specs.Demand2.{Reading, Done, Refused, Full, Demand2,
 use Rattle.demands.specs.Demand3.{Op, put, delete, planned, whole, effect}
 use Rattle.demands.proofs.States.{State}
 use Rattle.demands.proofs.Readings.{state-reading, rows-leaves, reads-state, sound-reads}
-use Rattle.demands.proofs.Operations.{put-is-here, delete-is-here, whole-done, whole-refused, done-state}
+use Rattle.demands.proofs.Operations.{put-is-here, put-retired-here, delete-is-here, whole-done, whole-refused, done-state}
 
 module _ (pool map : List ℕ) (T : Table) (r : Reading pool map T) where
   S : State (r .sound .n) pool (some map) T
@@ -51,8 +51,9 @@ module _ (pool map : List ℕ) (T : Table) (r : Reading pool map T) where
 
   pub demand2 : Demand2 pool map T r
   demand2 = record {
-    put-full = λ k v h f. op-refused (put k v h) 4 (fills k v h f (put-is-here S k v h)) (λ z. omega arith);
-    put-done = λ k v h f. op-done (put k v h) (room k v h f (put-is-here S k v h));
+    put-retired = λ k h. op-refused (put k 0 h) 7 (number-of (put-retired-here S k)) (λ z. omega arith);
+    put-full = λ k v h z f. op-refused (put k v h) 4 (fills k v h f (put-is-here S k v h z)) (λ z. omega arith);
+    put-done = λ k v h z f. op-done (put k v h) (room k v h f (put-is-here S k v h z));
     delete-absent = λ k h e. op-refused (delete k h) 3 (lacks k e (delete-is-here S k)) (λ z. omega arith);
     delete-done = λ k v h e. op-done (delete k h) (held k v e (delete-is-here S k));
   }

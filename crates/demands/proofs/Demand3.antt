@@ -25,9 +25,9 @@ use Rattle.writing.proofs.Wholes.{size-same}
 use Rattle.opening.specs.Openings.{Left, openOf, openSteps}
 use Rattle.opening.proofs.HeldOpens.{steps-pool, open-is, all-mended, reached-marked}
 use Rattle.demands.specs.Tables.{Table, blank}
-use Rattle.demands.specs.Demand3.{Op, Cut, planned, InOrder, Loosely, Reach, fresh, done, stepped, refused, cut, lost, reopening, opened, Demand3, Begins}
+use Rattle.demands.specs.Demand3.{Op, Cut, planned, InOrder, Loosely, Reach, fresh, existing, done, stepped, refused, cut, lost, reopening, opened, Promised, Demand3, Begins}
 use Rattle.demands.proofs.States.{State}
-use Rattle.demands.proofs.Readings.{state-reads, state-reading, state-capacity}
+use Rattle.demands.proofs.Readings.{state-reads, state-reading, state-capacity, existing-state}
 use Rattle.demands.proofs.Operations.{turns, done-state, stepped-state, refused-state, cut-state, in-order-loosely}
 
 -- ---- a freshly formatted pool
@@ -118,6 +118,14 @@ module _ {n : ℕ} {pool : List ℕ} {T : Table} where
       some-is : {x y : List ℕ} → some x ≡ some y → x ≡ y
       some-is e = cc
 
+-- ---- what is promised of a state
+pub promised : {n : ℕ} {pool : List ℕ} {map : Option (List ℕ)} {T : Table} → State n pool map T → Promised n pool map T
+promised {n = n} {pool = pool} {T = T} S = record {
+  reads = state-reads S;
+  opens = λ bytes e. ap (λ (l : Left). l .answer .number) (open-is n (S .pos) (S .cap) (S .t) pool (S .holds) bytes e);
+  room = λ bytes e. let S′ = subst (λ (m : Option (List ℕ)). State n pool m T) e S in (state-reading S′, state-capacity S′ (state-reading S′ .sound));
+}
+
 -- ---- every state that is reached
 module _ (C : Cut) (within : (o : Op) (σ τ : List Store) (b : Bool) → 0 < length σ → C o σ τ b → Loosely o σ τ b) where
   pub stores-some : {n : ℕ} {pool map : List ℕ} {T : Table} (S : State n pool (some map) T) (o : Op) → planned o pool map .number ≡ 0
@@ -126,8 +134,9 @@ module _ (C : Cut) (within : (o : Op) (σ τ : List Store) (b : Bool) → 0 < le
       let U = turns S o z in
       rw (U .plan) (omega (arith, length-append (U .before) (U .switch ∷ U .rest)))
 
-  pub reach-state : {n : ℕ} {pool : List ℕ} {map : Option (List ℕ)} {T : Table} → Reach C n pool map T → State n pool map T
+  pub reach-state : {B : List ℕ → Type 0} {n : ℕ} {pool : List ℕ} {map : Option (List ℕ)} {T : Table} → Reach B C n pool map T → State n pool map T
   reach-state {n = n} (fresh pool map z) = fresh-state n pool map z
+  reach-state (existing {pool = pool} {T = T} s e b ok r) = subst (λ (m : ℕ). State m pool none T) e (existing-state pool s T ok r)
   reach-state (done o r z) = done-state (reach-state r) o z
   reach-state (stepped o r z) = stepped-state (reach-state r) o z
   reach-state (refused o r z) = refused-state (reach-state r) o z
@@ -138,13 +147,7 @@ module _ (C : Cut) (within : (o : Op) (σ τ : List Store) (b : Bool) → 0 < le
   reach-state {n = n} (opened {pool = pool} bytes r e) = let S = reach-state r in open-state S bytes e
 
   pub demand3-of : Demand3 C
-  demand3-of n pool map T r =
-      let S = reach-state r in
-      record {
-        reads = state-reads S;
-        opens = λ bytes e. ap (λ (l : Left). l .answer .number) (open-is n (S .pos) (S .cap) (S .t) pool (S .holds) bytes e);
-        room = λ bytes e. let S′ = subst (λ (m : Option (List ℕ)). State n pool m T) e S in (state-reading S′, state-capacity S′ (state-reading S′ .sound));
-      }
+  demand3-of n pool map T r = promised (reach-state r)
 
 pub demand3-in-order : Demand3 InOrder
 demand3-in-order = demand3-of InOrder (λ o σ τ b. in-order-loosely)

@@ -11,8 +11,9 @@ use Rattle.digits.specs.Choice.{pick}
 use Rattle.pool.specs.Sizes.{capacityOf, bytesOf}
 use Rattle.pool.specs.declared.Size.{Size}
 use Rattle.pool.specs.declared.Size.the-variants.{Holds, Wrong}
-use Rattle.tree.proofs.Basics.{Same?, same, other, same?}
-use Rattle.demands.specs.Causes.{Exactly, Asks, so, not-so, Fits, FitsMap, After, wrong, right}
+use Rattle.plan.specs.Plans.{Decided, refused}
+use Rattle.tree.proofs.Basics.{Same?, same, other as differs, same?}
+use Rattle.demands.specs.Causes.{Exactly, Asks, so, not-so, Fits, FitsMap, After, wrong, right, Retires, retired, other}
 use Rattle.demands.proofs.Ways.{fits-holds, holds-fits}
 
 pub wrong-holds : {s : Size} {n : ℕ} → s ≡ Wrong → s ≡ Holds n → ⊥
@@ -56,7 +57,7 @@ module _ {A B : Type 0} (read : B → A) (one : B) (C : ℕ → A → Type 0) (p
     where
       long : (n : ℕ) → capacityOf pool ≡ Holds n → Same? (length bytes) (bytesOf n) → Judged (FitsMap pool bytes) (read one) (read (f (capacityOf pool)))
       long n e (same l q) = fit n (holds-fits e, l)
-      long n e (other l q) = unfit (λ m k. l (k .1 ∙ ap bytesOf (sym (k .0 .1) ∙ holds-fits e .1))) (rw (e, h n, q))
+      long n e (differs l q) = unfit (λ m k. l (k .1 ∙ ap bytesOf (sym (k .0 .1) ∙ holds-fits e .1))) (rw (e, h n, q))
 
       judge : (s : Size) → capacityOf pool ≡ s → Judged (FitsMap pool bytes) (read one) (read (f (capacityOf pool)))
       judge (Holds n) e = long n e (same? (length bytes) (bytesOf n))
@@ -71,3 +72,19 @@ asked {P} {k} c = exactly (Asks P k) (_, c) (λ a d. one c d)
     one (so p) (not-so q) = absurd (q p)
     one (not-so p) (so q) = absurd (p q)
     one (not-so p) (not-so q) = refl
+
+-- 7 comes first where the file number is 0, and nowhere else
+pub retires : (d : Decided) (v : ℕ) (C : ℕ → Type 0) → Exactly (d .number) C → Exactly (pick (eqb v 0) (refused 7) d .number) (Retires v C)
+retires d v C E = go (same? v 0)
+  where
+    one : v ≡ 0 → (a : ℕ) → Retires v C a → 7 ≡ a
+    one e a (retired e′) = refl
+    one e a (other n c) = absurd (n e)
+
+    back : (v ≡ 0 → ⊥) → (a : ℕ) → Retires v C a → d .number ≡ a
+    back n a (retired e) = absurd (n e)
+    back n a (other n′ c) = E a .1 c
+
+    go : Same? v 0 → Exactly (pick (eqb v 0) (refused 7) d .number) (Retires v C)
+    go (same e q) = rw q (λ a. ((λ z. subst (Retires v C) z (retired e)), one e a))
+    go (differs n q) = rw q (λ a. ((λ z. other n (E a .0 z)), back n a))

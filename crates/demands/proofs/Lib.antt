@@ -5,6 +5,7 @@ pub mod Operations
 pub mod Readings
 pub mod Cases
 pub mod StoreLists
+pub mod Retired
 pub mod Mistakes
 pub mod Unique
 pub mod Demand1

@@ -2,6 +2,7 @@
 -- Assumes nothing.
 use mathlib.Core.Path.{_≡_, refl, sym, ap, _∙_, subst}
 use mathlib.Core.Bool.{Bool, true, false}
+use mathlib.Core.Logic.{_≢_}
 use mathlib.Core.Option.{none, some}
 use mathlib.Core.List.{List, [], _∷_, _++_}
 use Prim.Native.Nat.{ℕ, zero, suc, _+_, _-_, _<_}
@@ -21,7 +22,7 @@ use Rattle.tree.proofs.Basics.{Same?, same, other, same?}
 use Rattle.tree.proofs.Stores.{Words, words-part, part-all, part-none, part-take}
 use Rattle.layout.specs.Layout.{Held}
 use Rattle.layout.specs.Switches.{Switches}
-use Rattle.plan.specs.Plans.{made, Decided, decided}
+use Rattle.plan.specs.Plans.{made, Decided, decided, refused}
 use Rattle.finishing.specs.Finishes.{finishOf}
 use Rattle.plan.specs.Effects.{takes, frees, Inside}
 use Rattle.plan.specs.declared.Effect.{Effect}
@@ -32,7 +33,7 @@ use Rattle.rules.specs.Puts.{putPlan}
 use Rattle.rules.specs.Deletes.{deletePlan}
 use Rattle.writing.specs.Calls.{Left, wholeOf, putOf, deleteOf}
 use Rattle.rules.proofs.Fits.{put-inside, put-named, delete-inside, delete-named}
-use Rattle.rules.proofs.HeldPuts.{PutIs, full, does, put-is}
+use Rattle.rules.proofs.HeldPuts.{PutIs, full, does, put-is, put-retired}
 use Rattle.rules.proofs.HeldDeletes.{DeleteIs, absent, does as deletes, delete-is}
 use Rattle.demands.specs.Tables.{Table, given, without, Names}
 use Rattle.demands.specs.Demand3.{Op, put, delete, planned, whole, byPlan, effect}
@@ -113,8 +114,11 @@ module _ {n : ℕ} {pool bytes : List ℕ} {T : Table} (S : State n pool (some b
   M : Marked n bytes t
   M = S .marks bytes refl
 
-  pub put-is-here : (k v : ℕ) → Word k → PutIs pool n t k v (putPlan pool bytes k v)
-  put-is-here k v h = put-is pool bytes n (S .pos) (S .cap) t (S .holds .held) M k v (tree-names S) h (fits S)
+  pub put-is-here : (k v : ℕ) → Word k → v ≢ 0 → PutIs pool n t k v (putPlan pool bytes k v)
+  put-is-here k v h some-file = put-is pool bytes n (S .pos) (S .cap) t (S .holds .held) M k v (tree-names S) h some-file (fits S)
+
+  pub put-retired-here : (k : ℕ) → putPlan pool bytes k 0 ≡ refused 7
+  put-retired-here k = put-retired pool bytes n k (fits S) (M .size)
 
   pub delete-is-here : (k : ℕ) → DeleteIs pool n t k (deletePlan pool k)
   delete-is-here k = delete-is pool n t (S .holds .held) k (fits S)
@@ -122,7 +126,7 @@ module _ {n : ℕ} {pool bytes : List ℕ} {T : Table} (S : State n pool (some b
   -- a plan that is not refused turns the state
   pub turns : (o : Op) → planned o pool bytes .number ≡ 0 → Turns o n pool t T (planned o pool bytes)
   unfolding occurs
-  turns (put k v h) z = go (put-is-here k v h)
+  turns (put k v h) z = by-file (same? v 0)
     where
       go : PutIs pool n t k v (putPlan pool bytes k v) → Turns (put k v h) n pool t T (putPlan pool bytes k v)
       go (full e new all) = let q : _≡_ {A = ℕ} 4 0 = sym (ap (λ (d : Decided). d .number) e) ∙ z in absurd (omega arith)
@@ -144,6 +148,12 @@ module _ {n : ℕ} {pool bytes : List ℕ} {T : Table} (S : State n pool (some b
         above = above;
         named = subst (λ (d : Decided). Inside (d .effect) (bytesOf n)) p (rw (M .size) at (put-named pool bytes k v));
       }
+
+      by-file : Same? v 0 → Turns (put k v h) n pool t T (putPlan pool bytes k v)
+      by-file (same e q) =
+          let r : _≡_ {A = ℕ} 7 0 = sym (ap (λ (d : Decided). d .number) (put-retired-here k)) ∙ ap (λ (x : ℕ). putPlan pool bytes k x .number) (sym e) ∙ z in
+          absurd (omega arith)
+      by-file (other e q) = go (put-is-here k v h e)
   turns (delete k h) z = go (delete-is-here k)
     where
       go : DeleteIs pool n t k (deletePlan pool k) → Turns (delete k h) n pool t T (deletePlan pool k)

@@ -109,34 +109,39 @@ finds-one none (some v) r p q = absurd (omega (arith, p .0, q .0))
 finds-one (some u) none r p q = absurd (omega (arith, p .0, q .0))
 finds-one (some u) (some v) r p q = ap some (sym (p .1) ∙ q .1)
 
-module _ (pool bytes : List ℕ) (s : Sound pool) (E : Exact pool (s .n) bytes) where
+module _ (pool : List ℕ) (s : Sound pool) where
   abbrev T₀ : Tree ℕ
   T₀ = sound-holds pool s .0
 
   H₀ : Held 16 (s .n) (mem pool) T₀
   H₀ = sound-holds pool s .1
 
-  sound-state : (T : Table) → ((k : ℕ) → T k ≡ find dig k T₀) → Names T → State (s .n) pool (some bytes) T
-  sound-state T is ok =
+  sound-state : (map : Option (List ℕ)) → ((b : List ℕ) → map ≡ some b → Marked (s .n) b T₀) → (T : Table) → ((k : ℕ) → T k ≡ find dig k T₀) → Names T
+      → State (s .n) pool map T
+  sound-state map M T is ok =
       let P = pool-is pool (s .n) T₀ (s .size) H₀ in
-      record {
-        pos = P .0;
-        cap = P .1;
-        t = T₀;
-        holds = P .2;
-        table = is;
-        names = ok;
-        marks = λ b e. subst (λ (l : List ℕ). Marked (s .n) l T₀) (some-is e) (exact-marked pool bytes (s .n) T₀ H₀ E);
-      }
+      record { pos = P .0; cap = P .1; t = T₀; holds = P .2; table = is; names = ok; marks = M }
+
+  -- the table that the pool reads as is its tree's
+  read-table : (T : Table) → Reads pool T → (k : ℕ) → T k ≡ find dig k T₀
+  read-table T r k = finds-one (T k) (find dig k T₀) (lookupOf pool k) (r .lookup k) (lookup-held pool (s .n) T₀ (s .size) H₀ k)
+
+  -- without its map
+  pub existing-state : (T : Table) → Names T → Reads pool T → State (s .n) pool none T
+  existing-state T ok r = sound-state none (λ b e. let z : _≡_ {A = ℕ} 0 1 = cc in absurd (omega arith)) T (read-table T r) ok
+
+module _ (pool bytes : List ℕ) (s : Sound pool) (E : Exact pool (s .n) bytes) where
+  mapped : (b : List ℕ) → some bytes ≡ some b → Marked (s .n) b (T₀ pool s)
+  mapped b e = subst (λ (l : List ℕ). Marked (s .n) l (T₀ pool s)) (some-is e) (exact-marked pool bytes (s .n) (T₀ pool s) (H₀ pool s) E)
     where
       some-is : {x y : List ℕ} → some x ≡ some y → x ≡ y
       some-is e = cc
 
   pub reads-state : (T : Table) → Names T → Reads pool T → State (s .n) pool (some bytes) T
-  reads-state T ok r = sound-state T (λ k. finds-one (T k) (find dig k T₀) (lookupOf pool k) (r .lookup k) (lookup-held pool (s .n) T₀ (s .size) H₀ k)) ok
+  reads-state T ok r = sound-state pool s (some bytes) mapped T (read-table pool s T r) ok
 
   -- a sound pool of words reads as a table
   pub sound-reads : Words pool → (T : Table) × Reading pool bytes T
   sound-reads words =
-      let T : Table = λ k. find dig k T₀ in
-      (T, state-reading (sound-state T (λ k. refl) (names-held pool (s .n) words T₀ H₀)))
+      let T : Table = λ k. find dig k (T₀ pool s) in
+      (T, state-reading (sound-state pool s (some bytes) mapped T (λ k. refl) (names-held pool (s .n) words (T₀ pool s) (H₀ pool s))))

@@ -34,12 +34,12 @@ use Rattle.opening.specs.Openings.{openOf, openSteps}
 use Rattle.opening.proofs.HeldOpens.{steps-pool, steps-stale}
 use Rattle.demands.specs.Tables.{Table}
 use Rattle.demands.specs.Demand3.{Op, Cut, planned, whole, InOrder, Loosely, AtMostOneStale}
-use Rattle.demands.specs.Demand3.{Reach, fresh, done, stepped, refused, cut, lost, reopening, opened}
+use Rattle.demands.specs.Demand3.{Reach, fresh, existing, done, stepped, refused, cut, lost, reopening, opened}
 use Rattle.demands.proofs.States.{State, fits, stored}
 use Rattle.demands.proofs.Operations.{part-first, part-both, Turns, turns, cut-case, in-order-loosely}
 use Rattle.demands.proofs.Operations.{whole-number, by-plan-whole, whole-done, whole-refused}
 use Rattle.demands.proofs.Opening.{opens}
-use Rattle.demands.proofs.Demand3.{root-blank, open-state, stores-some, reach-state, demand3-of}
+use Rattle.demands.proofs.Demand3.{root-blank, open-state, stores-some, reach-state, promised}
 
 -- no node is stale but one at most
 abbrev Only : ℕ → List ℕ → Type 0
@@ -134,8 +134,10 @@ module _ {n : ℕ} {pool bytes : List ℕ} {T : Table} (S : State n pool (some b
 
 -- ---- every state that is reached
 module _ (C : Cut) (within : (o : Op) (σ τ : List Store) (b : Bool) → 0 < length σ → C o σ τ b → Loosely o σ τ b) where
-  reach-stales : {n : ℕ} {pool : List ℕ} {map : Option (List ℕ)} {T : Table} → Reach C n pool map T → Stales n pool map
+  reach-stales : {n : ℕ} {pool : List ℕ} {map : Option (List ℕ)} {T : Table} → Reach Straight C n pool map T → Stales n pool map
   reach-stales {n = n} (fresh pool map z) = all-fresh n _ _ (root-empty n (formatOf pool map n .pool) (format-root n pool map z))
+  reach-stales {n = n} (existing {pool = pool} s e b ok r) =
+      all-fresh n _ _ (straight-none n pool (s .size ∙ ap Holds e) b)
   reach-stales {n = n} (done {pool = pool} {map = map} o r z) =
       let S = reach-state C within r in
       let p : planned o pool map .number ≡ 0 = sym (whole-number S o) ∙ z in
@@ -164,7 +166,7 @@ module _ (C : Cut) (within : (o : Op) (σ τ : List Store) (b : Bool) → 0 < le
       unmapped (O′ .slot - n, λ j e. omega (arith, one-stale (openSteps k pool) n (S .t) (P .held) O′ j e))
   reach-stales {n = n} (opened {pool = pool} bytes r e) =
       let S = reach-state C within r in
-      let done-there : openOf pool bytes .answer .number ≡ 0 = demand3-of C within n pool none _ r .opens bytes e in
+      let done-there : openOf pool bytes .answer .number ≡ 0 = promised S .opens bytes e in
       all-fresh n _ _ (straight-none n (openOf pool bytes .pool) (fits (open-state S bytes e)) (opens .restores pool bytes done-there .after))
 
   one-stale-of : AtMostOneStale C

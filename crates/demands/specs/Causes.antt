@@ -3,7 +3,7 @@
 -- Assumes nothing.
 use mathlib.Core.Path.{_≡_}
 use mathlib.Core.Bool.{false}
-use mathlib.Core.Logic.{_↔_}
+use mathlib.Core.Logic.{_↔_, _≢_}
 use mathlib.Core.List.{List}
 use Prim.Native.Nat.{ℕ, _≤_, _<_}
 use lib.ListN.{length, getD}
@@ -52,12 +52,17 @@ Named (TakesBoth a b) n = (a < n) × (b < n)
 Named (FreesLeaf a) n = a < n
 Named (FreesBoth a b) n = (a < n) × (b < n)
 
+-- 02 (x): "Puts of file number 0 are refused, for new and held keys alike. .. 7, after 1 and before 2."
+pub data Retires (v : ℕ) (Cause : ℕ → Type 0) : ℕ → Type 0 where
+  retired : v ≡ 0 → Retires v Cause 7
+  other : {x : ℕ} → v ≢ 0 → Cause x → Retires v Cause x
+
 pub record Causes : Type 0 where
   pub lookup : (pool : List ℕ) (k : ℕ) → Exactly (lookupOf pool k) (After (answer 1 0 0) (Fits pool) (λ n. Lookup pool n k))
   pub list : (pool : List ℕ) (from : ℕ) (ks vs : List ℕ)
       → Exactly (listOf pool from ks vs .answer) (After (listed 1 0 false) (Fits pool) (λ n. Listing pool n from (length ks) (length vs)))
-  pub plan-put : (pool bytes : List ℕ) (k v : ℕ) → Exactly (putPlan pool bytes k v .number) (After 1 (FitsMap pool bytes) (λ n. Put pool n bytes k))
-  pub put : (pool bytes : List ℕ) (k v : ℕ) → Exactly (putOf pool bytes k v .done .number) (After 1 (FitsMap pool bytes) (λ n. Put pool n bytes k))
+  pub plan-put : (pool bytes : List ℕ) (k v : ℕ) → Exactly (putPlan pool bytes k v .number) (After 1 (FitsMap pool bytes) (λ n. Retires v (Put pool n bytes k)))
+  pub put : (pool bytes : List ℕ) (k v : ℕ) → Exactly (putOf pool bytes k v .done .number) (After 1 (FitsMap pool bytes) (λ n. Retires v (Put pool n bytes k)))
   pub plan-delete : (pool : List ℕ) (k : ℕ) → Exactly (deletePlan pool k .number) (After 1 (Fits pool) (λ n. Delete pool n k))
   pub delete : (pool bytes : List ℕ) (k : ℕ) → Exactly (deleteOf pool bytes k .done .number) (After 1 (FitsMap pool bytes) (λ n. Delete pool n k))
   -- "Open checks soundness of the whole pool first"

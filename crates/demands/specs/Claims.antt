@@ -13,6 +13,7 @@ use Rattle.demands.specs.Opening.{Opens}
 use Rattle.demands.specs.Unique.{Unique}
 use Rattle.demands.specs.Cases.{every, cases}
 use Rattle.demands.specs.StoreLists.{storeLists}
+use Rattle.demands.specs.Retired.{retired}
 
 pub record Claims : Type 0 where
   pub demand1 : Demand1
@@ -33,3 +34,4 @@ pub record Claims : Type 0 where
   pub one-outcome : Unique
   pub examples : every cases ≡ true
   pub store-lists : every storeLists ≡ true
+  pub retired-names : every retired ≡ true

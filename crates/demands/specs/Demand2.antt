@@ -3,6 +3,7 @@
 -- places are held."
 -- Assumes nothing.
 use mathlib.Core.Path.{_≡_}
+use mathlib.Core.Logic.{_≢_}
 use mathlib.Core.Option.{none, some}
 use mathlib.Core.List.{List}
 use Prim.Native.Nat.{ℕ}
@@ -41,9 +42,11 @@ abbrev pub Full : (pool map : List ℕ) (T : Table) → Reading pool map T → �
 Full pool map T r k = (T k ≡ none) × (length (r .reads .rows) ≡ r .sound .n)
 
 pub record Demand2 (pool map : List ℕ) (T : Table) (r : Reading pool map T) : Type 0 where
-  -- put: refused with 4 where all N places are held and the name is new, else done
-  pub put-full : (k v : ℕ) → Word k → Full pool map T r k → Refused pool map 4 (putOf pool map k v)
-  pub put-done : (k v : ℕ) → Word k → (Full pool map T r k → ⊥)
+  -- put: 02 (x): "Puts of file number 0 are refused, for new and held keys alike."
+  pub put-retired : (k : ℕ) → Word k → Refused pool map 7 (putOf pool map k 0)
+  -- "Demand 2's room clause and number 4 speak of the other puts": refused with 4 where all N places are held and the name is new, else done
+  pub put-full : (k v : ℕ) → Word k → v ≢ 0 → Full pool map T r k → Refused pool map 4 (putOf pool map k v)
+  pub put-done : (k v : ℕ) → Word k → v ≢ 0 → (Full pool map T r k → ⊥)
       → Done pool map (given k v T) (length (putPlan pool map k v .stores)) (made (putPlan pool map k v .stores) pool) (putOf pool map k v)
   -- delete: refused with 3 where the name is not held, else done
   pub delete-absent : (k : ℕ) → Word k → T k ≡ none → Refused pool map 3 (deleteOf pool map k)

@@ -17,10 +17,10 @@ use Rattle.plan.specs.Plans.{made, Decided, plannedOf}
 use Rattle.rules.specs.Puts.{putPlan}
 use Rattle.rules.specs.Deletes.{deletePlan}
 use Rattle.writing.specs.Calls.{Left, putOf, deleteOf, Formatted, formatOf, FormatGives}
-use Rattle.survey.specs.Soundness.{Stale}
+use Rattle.survey.specs.Soundness.{Sound, Stale, Straight}
 use Rattle.opening.specs.Openings.{openOf, openSteps}
 use Rattle.listing.specs.Rows.{Word}
-use Rattle.demands.specs.Tables.{Table, blank, given, without, Reads}
+use Rattle.demands.specs.Tables.{Table, blank, given, without, Names, Reads}
 use Rattle.demands.specs.Demand2.{Reading}
 use Rattle.demands.specs.ByPlan.{carriedOut}
 
@@ -68,26 +68,29 @@ pub data Loosely : Op → List Store → List Store → Bool → Type 0 where
   delete-since : {k : ℕ} {h : Word k} {s : Store} {σ τ : List Store} → Part σ τ → Loosely (delete k h) (s ∷ σ) (s ∷ τ) true
 
 -- a pool of n leaves, its map where there is one, and the plain table of all finished operations and of cut ones that count
-pub data Reach (C : Cut) (n : ℕ) : List ℕ → Option (List ℕ) → Table → Type 0 where
+pub data Reach (B : List ℕ → Type 0) (C : Cut) (n : ℕ) : List ℕ → Option (List ℕ) → Table → Type 0 where
   -- "Take a freshly formatted pool and its map."
-  fresh : (pool map : List ℕ) → formatOf pool map n .number ≡ 0 → Reach C n (formatOf pool map n .pool) (some (formatOf pool map n .map)) blank
+  fresh : (pool map : List ℕ) → formatOf pool map n .number ≡ 0 → Reach B C n (formatOf pool map n .pool) (some (formatOf pool map n .map)) blank
+  -- 02 (x): "Such entries in existing pools are still found, listed, replaced, deleted and opened." A pool that is there already, of the kind B: it is sound,
+  -- reads as a table, and has no map, so that it is opened first.
+  existing : {pool : List ℕ} {T : Table} (s : Sound pool) → s .n ≡ n → B pool → Names T → Reads pool T → Reach B C n pool none T
   -- "Make any sequence of puts and deletes"
-  done : {pool map : List ℕ} {T : Table} (o : Op) → Reach C n pool (some map) T → whole o pool map .done .number ≡ 0
-      → Reach C n (whole o pool map .pool) (some (whole o pool map .map)) (effect o T)
+  done : {pool map : List ℕ} {T : Table} (o : Op) → Reach B C n pool (some map) T → whole o pool map .done .number ≡ 0
+      → Reach B C n (whole o pool map .pool) (some (whole o pool map .map)) (effect o T)
   -- the same by its plan: all steps in order, and the finish
-  stepped : {pool map : List ℕ} {T : Table} (o : Op) → Reach C n pool (some map) T → planned o pool map .number ≡ 0
-      → Reach C n (byPlan o pool map .pool) (some (byPlan o pool map .map)) (effect o T)
-  refused : {pool map : List ℕ} {T : Table} (o : Op) → Reach C n pool (some map) T → (whole o pool map .done .number ≡ 0 → ⊥)
-      → Reach C n (whole o pool map .pool) (some (whole o pool map .map)) T
+  stepped : {pool map : List ℕ} {T : Table} (o : Op) → Reach B C n pool (some map) T → planned o pool map .number ≡ 0
+      → Reach B C n (byPlan o pool map .pool) (some (byPlan o pool map .map)) (effect o T)
+  refused : {pool map : List ℕ} {T : Table} (o : Op) → Reach B C n pool (some map) T → (whole o pool map .done .number ≡ 0 → ⊥)
+      → Reach B C n (whole o pool map .pool) (some (whole o pool map .map)) T
   -- "any of them cut before, between or after its stores" "After a cut the map is lost"
-  cut : {pool map : List ℕ} {T : Table} (o : Op) {τ : List Store} {b : Bool} → Reach C n pool (some map) T → planned o pool map .number ≡ 0
-      → C o (planned o pool map .stores) τ b → Reach C n (made τ pool) none (pick b (effect o T) T)
-  lost : {pool map : List ℕ} {T : Table} → Reach C n pool (some map) T → Reach C n pool none T
+  cut : {pool map : List ℕ} {T : Table} (o : Op) {τ : List Store} {b : Bool} → Reach B C n pool (some map) T → planned o pool map .number ≡ 0
+      → C o (planned o pool map .stores) τ b → Reach B C n (made τ pool) none (pick b (effect o T) T)
+  lost : {pool map : List ℕ} {T : Table} → Reach B C n pool (some map) T → Reach B C n pool none T
   -- "opening is repeated, itself cut at any store"
-  reopening : {pool : List ℕ} {T : Table} (k : ℕ) → Reach C n pool none T → Reach C n (openSteps k pool) none T
+  reopening : {pool : List ℕ} {T : Table} (k : ℕ) → Reach B C n pool none T → Reach B C n (openSteps k pool) none T
   -- "until one finishes"
-  opened : {pool : List ℕ} {T : Table} (bytes : List ℕ) → Reach C n pool none T → length bytes ≡ bytesOf n
-      → Reach C n (openOf pool bytes .pool) (some (openOf pool bytes .map)) T
+  opened : {pool : List ℕ} {T : Table} (bytes : List ℕ) → Reach B C n pool none T → length bytes ≡ bytesOf n
+      → Reach B C n (openOf pool bytes .pool) (some (openOf pool bytes .map)) T
 
 -- what is promised of every state that is reached
 pub record Promised (n : ℕ) (pool : List ℕ) (map : Option (List ℕ)) (T : Table) : Type 0 where
@@ -98,8 +101,12 @@ pub record Promised (n : ℕ) (pool : List ℕ) (map : Option (List ℕ)) (T : T
   -- "and no room is lost then": where there is a map, the pool and the map are as demand 2 asks, with the same table
   pub room : (bytes : List ℕ) → map ≡ some bytes → (r : Reading pool bytes T) × (r .sound .n ≡ n)
 
+-- sequences begin at a freshly formatted pool, or at any pool that is there already
+abbrev pub Any : List ℕ → Type 0
+Any pool = Unit {0}
+
 abbrev pub Demand3 : Cut → Type 0
-Demand3 C = (n : ℕ) (pool : List ℕ) (map : Option (List ℕ)) (T : Table) → Reach C n pool map T → Promised n pool map T
+Demand3 C = (n : ℕ) (pool : List ℕ) (map : Option (List ℕ)) (T : Table) → Reach Any C n pool map T → Promised n pool map T
 
 -- Format accepts every capacity with a pool and a map of its length, so that the states reached begin at each: "Its capacity N is 1 to 1024 leaves", "The pool
 -- has exactly 19N-15 words", a map "of 2N-1 bytes".
@@ -108,7 +115,7 @@ Begins =
     (n : ℕ) (pool map : List ℕ) → 1 ≤ n → n ≤ 1024 → length pool ≡ 19 * n - 15 → length map ≡ 2 * n - 1
     → (f : Formatted) → FormatGives pool map n f → f .number ≡ 0
 
--- And beside the demand: in every state that is reached at most one header is stale.
+-- And beside the demand: in every state that is reached from a formatted pool, or from one that is straight, at most one header is stale.
 abbrev pub AtMostOneStale : Cut → Type 0
 AtMostOneStale C =
-    (n : ℕ) (pool : List ℕ) (map : Option (List ℕ)) (T : Table) → Reach C n pool map T → (j j′ : ℕ) → Stale pool n j → Stale pool n j′ → j ≡ j′
+    (n : ℕ) (pool : List ℕ) (map : Option (List ℕ)) (T : Table) → Reach Straight C n pool map T → (j j′ : ℕ) → Stale pool n j → Stale pool n j′ → j ≡ j′

@@ -11,5 +11,6 @@ pub mod Opening
 pub mod Unique
 pub mod Cases
 pub mod StoreLists
+pub mod Retired
 pub mod Mistakes
 pub mod Claims

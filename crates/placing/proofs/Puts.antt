@@ -1,6 +1,7 @@
 -- Where a put goes: by where the walk ends, and beside which key. Every place found leads to the definition's plan, whatever the map and the value.
 -- Assumes nothing.
 use mathlib.Core.Path.{_≡_, refl, sym, _∙_}
+use mathlib.Core.Logic.{_≢_}
 use mathlib.Core.List.{List, [], _∷_}
 use Prim.Native.Nat.{ℕ, _+_, _-_, _≤_, _<_}
 use native.Mathlib.Omega.{arith}
@@ -29,8 +30,8 @@ use Rattle.rules.specs.declared.Cleft.{Cleft}
 use Rattle.rules.specs.declared.Target.the-variants.{ALeaf, ANode}
 use Rattle.placing.specs.declared.Place.{Place}
 use Rattle.placing.specs.declared.Place.the-variants.{Held, Gap, Apart, Refused}
-use Rattle.rules.specs.Puts.{cleftAt, placedAt, besideOf, leafPut, emptyPut, putAt, putPlan}
-use Rattle.placing.specs.Leads.{planAt, Leads}
+use Rattle.rules.specs.Puts.{cleftAt, placedAt, besideOf, leafPut, emptyPut, putAt, putFile, putPlan}
+use Rattle.placing.specs.Leads.{planAt, Leads, Suits}
 
 -- ---- the walk's last node
 -- the reference to it is inside the pool; before the first node that counts as word 0
@@ -171,6 +172,14 @@ module _ (pool : List ℕ) (n k : ℕ) {e : End} (walks : e ≡ walkOf pool n k)
       go map v (Stopped s j b) p q = refl
       go map v (Damaged m) p q = refl
 
+-- ---- by the file number
+module _ (pool : List ℕ) (n k v : ℕ) where
+  pub file-retired : v ≡ 0 → Suits n k v (Refused 7) (λ map. putFile pool map n k v)
+  file-retired h = record { able = tt; plans = λ map. rw (eq-eqb v 0 h) }
+
+  pub file-placed : {p : Place} → v ≢ 0 → Leads n k p (λ map v. putAt pool map n k v (walkOf pool n k)) → Suits n k v p (λ map. putFile pool map n k v)
+  file-placed h b = record { able = b .able; plans = λ map. rw (ne-eqb v 0 h) (b .plans map v) }
+
 -- ---- by the sizes
 module _ (pool map : List ℕ) (k v : ℕ) {z : Size} (size : z ≡ capacityOf pool) where
   pub put-unsized : z ≡ Wrong → refused 1 ≡ putPlan pool map k v
@@ -182,7 +191,6 @@ module _ (pool map : List ℕ) (k v : ℕ) {z : Size} (size : z ≡ capacityOf p
     unfolding putPlan
     put-unmapped h = rw (← size, holds, ne-eqb (length map) (bytesOf n) h)
 
-    pub put-placed : {p : Place} → length map ≡ bytesOf n → Leads n k p (λ map v. putAt pool map n k v (walkOf pool n k))
-        → planAt map n k v p ≡ putPlan pool map k v
+    pub put-placed : {p : Place} → length map ≡ bytesOf n → Suits n k v p (λ map. putFile pool map n k v) → planAt map n k v p ≡ putPlan pool map k v
     unfolding putPlan
-    put-placed h b = rw (← size, holds, eq-eqb (length map) (bytesOf n) h) (b .plans map v)
+    put-placed h b = rw (← size, holds, eq-eqb (length map) (bytesOf n) h) (b .plans map)

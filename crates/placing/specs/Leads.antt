@@ -25,3 +25,8 @@ Able n (Refused m) = Unit {0}
 pub record Leads (n k : ℕ) (p : Place) (plan : List ℕ → ℕ → Decided) : Type 0 where
   pub able : Able n p
   pub plans : (map : List ℕ) (v : ℕ) → planAt map n k v p ≡ plan map v
+
+-- a place leads to these plans for one value
+pub record Suits (n k v : ℕ) (p : Place) (plan : List ℕ → Decided) : Type 0 where
+  pub able : Able n p
+  pub plans : (map : List ℕ) → planAt map n k v p ≡ plan map

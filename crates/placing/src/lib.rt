@@ -4,8 +4,8 @@ ghost use Prim.Native.Nat.{_<_, _≤_};
 ghost use lib.ListN.{length};
 ghost use Rattle.pool.specs.Sizes.{Sized};
 ghost use Rattle.walk.specs.Walks.{walkOf};
-ghost use Rattle.rules.specs.Puts.{cleftAt, besideOf, leafPut, emptyPut, putAt};
-ghost use Rattle.placing.specs.Leads.{Leads};
+ghost use Rattle.rules.specs.Puts.{cleftAt, besideOf, leafPut, emptyPut, putAt, putFile};
+ghost use Rattle.placing.specs.Leads.{Leads, Suits};
 use digits::Header;
 use rules::Cleft;
 use rules::Target;
@@ -101,8 +101,8 @@ fn beside_empty(pool: &[u64], n: usize, key: u64, s: Spot) -> Place
     beside(pool, n, key, s.nodes, s.at, near)
 }
 
-// Where a put goes. Every question of damage is settled here, before room is looked for.
-pub fn find_place(pool: &[u64], n: usize, key: u64) -> Place
+// Where a key goes. Every question of damage is settled here, before room is looked for.
+fn place_key(pool: &[u64], n: usize, key: u64) -> Place
     requires { ⌜ Sized (now pool) n ⌝ }
     ensures { λ r. ⌜ Leads n key r (λ map v. putAt (now (pool .entry)) map n key v (walkOf (now (pool .entry)) n key)) ⌝ }
 {
@@ -114,4 +114,15 @@ pub fn find_place(pool: &[u64], n: usize, key: u64) -> Place
         return Place::Refused(2);
     };
     beside_empty(pool, n, key, s)
+}
+
+// Where a put goes. File number 0 is retired: such a put is refused, whatever the pool holds.
+pub fn find_place(pool: &[u64], n: usize, key: u64, value: u64) -> Place
+    requires { ⌜ Sized (now pool) n ⌝ }
+    ensures { λ r. ⌜ Suits n key value r (λ map. putFile (now (pool .entry)) map n key value) ⌝ }
+{
+    if value == 0 {
+        return Place::Refused(7);
+    }
+    place_key(pool, n, key)
 }

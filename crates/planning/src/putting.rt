@@ -117,7 +117,15 @@ pub fn lay_put(
     if map.len() != 2 * n - 1 {
         return Laid::refused(1);
     }
-    lay_at(words, values, map, n, key, value, find_place(pool, n, key))
+    lay_at(
+        words,
+        values,
+        map,
+        n,
+        key,
+        value,
+        find_place(pool, n, key, value),
+    )
 }
 
 // What a put stores, in order.

@@ -99,7 +99,7 @@ bytesIn Wrong = 0
 -- ---- puts
 -- the numbers that refuse a put
 abbrev putNumbers : List ℕ
-putNumbers = 1 ∷ 2 ∷ 4 ∷ []
+putNumbers = 1 ∷ 2 ∷ 4 ∷ 7 ∷ []
 
 -- as many stores as the case has; what the last one's word referred to is the target of a split
 abbrev pub putStored : List ℕ → ℕ → Decided → ℕ
@@ -202,7 +202,8 @@ put-fits pool map k v = go (capacityOf pool) (size-fits pool (getD pool 0 0))
     go : (z : Size) → Measured pool z → PutFits pool map (leavesIn z) (putIn pool map k v z)
     go (Holds n) z =
         either (eqb (length map) (bytesOf n))
-        (λ e. put-at-fits map z (eqb-true (length map) (bytesOf n) e) k v (walkOf pool n k) (walk-inside z k 16 refl))
+        (λ e. either (eqb v 0) (λ r. refusal 7 (hit putNumbers 7 tt))
+        (λ r. put-at-fits map z (eqb-true (length map) (bytesOf n) e) k v (walkOf pool n k) (walk-inside z k 16 refl)))
         (λ e. refusal 1 (hit putNumbers 1 tt))
     go Wrong z = refusal 1 (hit putNumbers 1 tt)
 
@@ -217,7 +218,7 @@ put-few pool map k v = put-fits pool map k v .few
 pub put-named : (pool map : List ℕ) (k v : ℕ) → Inside (putPlan pool map k v .effect) (length map)
 put-named pool map k v = put-fits pool map k v .named
 
-pub put-number : (pool map : List ℕ) (k v : ℕ) → OneOf (0 ∷ 1 ∷ 2 ∷ 4 ∷ []) (putPlan pool map k v .number)
+pub put-number : (pool map : List ℕ) (k v : ℕ) → OneOf (0 ∷ 1 ∷ 2 ∷ 4 ∷ 7 ∷ []) (putPlan pool map k v .number)
 put-number pool map k v = answer-number (put-fits pool map k v .answers)
 
 -- 1, 3, 20 or 21 stores

@@ -327,13 +327,24 @@ module _ (pool bytes : List ℕ) (n : ℕ) (pos : 1 ≤ n) (cap : n ≤ 1024) (t
       go false u = at-root (not-filled t u) new
       go true u = below-last (filled-is t u) (near-empty k 0 (λ i. 0) t (H .good) (filled-is t u) e) new
 
-  pub put-is : capacityOf pool ≡ Holds n → PutIs pool n t k v (putPlan pool bytes k v)
+  -- a put that is not of file number 0
+  pub put-is : v ≢ 0 → capacityOf pool ≡ Holds n → PutIs pool n t k v (putPlan pool bytes k v)
   unfolding putPlan
-  put-is cap-is =
-      rw (cap-is, eq-eqb (length bytes) (bytesOf n) (M .size), walk-held pool n k 16 17 root (λ i. 0) t (H .holds) (H .good) (omega arith) (omega arith))
+  put-is some-file cap-is =
+      rw (
+        cap-is,
+        eq-eqb (length bytes) (bytesOf n) (M .size),
+        ne-eqb v 0 some-file,
+        walk-held pool n k 16 17 root (λ i. 0) t (H .holds) (H .good) (omega arith) (omega arith),
+      )
       (go (sub all t) refl (way-ends k 0 (λ i. 0) t (H .good)))
     where
       go : (u : Tree ℕ) → sub all t ≡ u → NoNode u → PutIs pool n t k v (putAt pool bytes n k v (endAt n end u))
       go empty e h = at-empty e
       go (leaf x k′ v′) e h = at-leaf x k′ v′ e
       go (node x b s kids) e h = absurd h
+
+-- a put of file number 0 is retired, whatever the pool holds
+pub put-retired : (pool bytes : List ℕ) (n k : ℕ) → capacityOf pool ≡ Holds n → length bytes ≡ bytesOf n → putPlan pool bytes k 0 ≡ refused 7
+unfolding putPlan
+put-retired pool bytes n k cap-is size = rw (cap-is, eq-eqb (length bytes) (bytesOf n) size)

@@ -123,8 +123,12 @@ putAt pool map n k v (AtEmpty s) = emptyPut pool map n k v s
 putAt pool map n k v (Stopped s j b) = refused 2
 putAt pool map n k v (Damaged m) = refused 2
 
+-- 02 (x): "Puts of file number 0 are refused, for new and held keys alike." "7, after 1 and before 2"
+abbrev pub putFile : List ℕ → List ℕ → ℕ → ℕ → ℕ → Decided
+putFile pool map n k v = pick (eqb v 0) (refused 7) (putAt pool map n k v (walkOf pool n k))
+
 abbrev pub putIn : List ℕ → List ℕ → ℕ → ℕ → Size → Decided
-putIn pool map k v (Holds n) = pick (eqb (length map) (bytesOf n)) (putAt pool map n k v (walkOf pool n k)) (refused 1)
+putIn pool map k v (Holds n) = pick (eqb (length map) (bytesOf n)) (putFile pool map n k v) (refused 1)
 putIn pool map k v Wrong = refused 1
 
 unfoldable pub putPlan : List ℕ → List ℕ → ℕ → ℕ → Decided

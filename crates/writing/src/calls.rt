@@ -17,7 +17,7 @@ pub fn put(pool: &mut [u64], map: &mut [u8], key: u64, value: u64) -> Done
     if map.len() != 2 * n - 1 {
         return Done::refused(1);
     }
-    let place = find_place(pool, n, key);
+    let place = find_place(pool, n, key, value);
     put_at(pool, map, n, key, value, place)
 }
 
