@@ -108,6 +108,7 @@ static const struct {
 uint64_t again_format(uint64_t *, size_t, uint8_t *, size_t, uint64_t);
 uint64_t again_open(uint64_t *, size_t, uint8_t *, size_t, uint64_t *, uint64_t *);
 uint64_t again_lookup(const uint64_t *, size_t, uint64_t, uint64_t *, uint64_t *);
+uint64_t again_lookup_quick(const uint64_t *, size_t, uint64_t, uint64_t *, uint64_t *);
 uint64_t again_list(const uint64_t *, size_t, uint64_t, uint64_t *, size_t, uint64_t *, size_t, uint64_t *, uint64_t *);
 uint64_t again_put(uint64_t *, size_t, uint8_t *, size_t, uint64_t, uint64_t, uint64_t *);
 uint64_t again_delete(uint64_t *, size_t, uint8_t *, size_t, uint64_t, uint64_t *);
@@ -299,21 +300,28 @@ static void btree_pass_del(const uint64_t *keys)
         expect(btree_delete(btree, keys[i]));
 }
 
+/* JudyL, BTreeMap and LMDB have one lookup: it is timed once more beside the quick one. */
 static const struct contender {
     const char *name;
     void (*empty)(void);
     void (*put)(const uint64_t *keys);
     uint64_t (*hit)(const uint64_t *keys);
     uint64_t (*miss)(const uint64_t *keys);
+    uint64_t (*quick_hit)(const uint64_t *keys);
+    uint64_t (*quick_miss)(const uint64_t *keys);
     size_t (*list)(uint64_t *keys, uint64_t *values);
     void (*del)(const uint64_t *keys);
 } contenders[] = {
-    {"wort", wort_pass_empty, wort_pass_put, wort_pass_hit, wort_pass_miss, wort_pass_list, wort_pass_del},
-    {"plain", plain_pass_empty, plain_pass_put, plain_pass_hit, plain_pass_miss, plain_pass_list, plain_pass_del},
-    {"again", again_pass_empty, again_pass_put, again_pass_hit, again_pass_miss, again_pass_list, again_pass_del},
-    {"judy", judy_empty, judy_put, judy_hit, judy_miss, judy_list, judy_del},
-    {"btree", btree_pass_empty, btree_pass_put, btree_pass_hit, btree_pass_miss, btree_pass_list, btree_pass_del},
-    {"lmdb", lmdb_empty, lmdb_put, lmdb_hit, lmdb_miss, lmdb_list, lmdb_del},
+    {"wort", wort_pass_empty, wort_pass_put, wort_pass_hit, wort_pass_miss, wort_pass_quick_hit, wort_pass_quick_miss,
+     wort_pass_list, wort_pass_del},
+    {"plain", plain_pass_empty, plain_pass_put, plain_pass_hit, plain_pass_miss, plain_pass_quick_hit, plain_pass_quick_miss,
+     plain_pass_list, plain_pass_del},
+    {"again", again_pass_empty, again_pass_put, again_pass_hit, again_pass_miss, again_pass_quick_hit, again_pass_quick_miss,
+     again_pass_list, again_pass_del},
+    {"judy", judy_empty, judy_put, judy_hit, judy_miss, judy_hit, judy_miss, judy_list, judy_del},
+    {"btree", btree_pass_empty, btree_pass_put, btree_pass_hit, btree_pass_miss, btree_pass_hit, btree_pass_miss,
+     btree_pass_list, btree_pass_del},
+    {"lmdb", lmdb_empty, lmdb_put, lmdb_hit, lmdb_miss, lmdb_hit, lmdb_miss, lmdb_list, lmdb_del},
 };
 
 #define CONTENDERS (sizeof contenders / sizeof *contenders)
@@ -332,7 +340,7 @@ static double median(double *times)
     return times[ROUNDS / 2];
 }
 
-static const char *const operations[] = {"put", "hit", "miss", "list", "delete"};
+static const char *const operations[] = {"put", "hit", "miss", "quick hit", "quick miss", "list", "delete"};
 
 #define OPERATIONS (sizeof operations / sizeof *operations)
 
@@ -367,14 +375,19 @@ static void run_round(const struct contender *contender, const struct orders *or
     uint64_t hit = now();
     uint64_t missed = contender->miss(orders->miss);
     uint64_t miss = now();
+    uint64_t quick_sum = contender->quick_hit(orders->hit);
+    uint64_t quick_hit = now();
+    uint64_t quick_missed = contender->quick_miss(orders->miss);
+    uint64_t quick_miss = now();
     size_t listed = contender->list(keys, values);
     uint64_t list = now();
     contender->del(orders->del);
     uint64_t end = now();
     expect(sum == orders->sum && missed == KEYS && listed == KEYS);
+    expect(quick_sum == orders->sum && quick_missed == KEYS);
     for (size_t i = 0; i + 1 < KEYS; i++)
         expect(keys[i] < keys[i + 1] && values[i] == value_of(keys[i]));
-    const uint64_t spent[] = {put - begin, hit - put, miss - hit, list - miss, end - list};
+    const uint64_t spent[] = {put - begin, hit - put, miss - hit, quick_hit - miss, quick_miss - quick_hit, list - quick_miss, end - list};
     for (size_t i = 0; i < OPERATIONS; i++)
         times[i] = (double)spent[i] / KEYS;
 }

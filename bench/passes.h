@@ -13,22 +13,45 @@ static void PASS(put)(const uint64_t *keys)
         expect(CALL(put)(pool, WORDS, map, BYTES, keys[i], value_of(keys[i]), &stores) == 0);
 }
 
-static uint64_t PASS(hit)(const uint64_t *keys)
+typedef uint64_t PASS(look)(const uint64_t *, size_t, uint64_t, uint64_t *, uint64_t *);
+
+/* Inlined with one of the two lookups, which is called by its name then. */
+static inline __attribute__((always_inline)) uint64_t PASS(hits)(PASS(look) *look, const uint64_t *keys)
 {
     uint64_t sum = 0, value, nodes;
     for (size_t i = 0; i < KEYS; i++) {
-        CALL(lookup)(pool, WORDS, keys[i], &value, &nodes);
+        look(pool, WORDS, keys[i], &value, &nodes);
         sum += value;
     }
     return sum;
 }
 
-static uint64_t PASS(miss)(const uint64_t *keys)
+static inline __attribute__((always_inline)) uint64_t PASS(misses)(PASS(look) *look, const uint64_t *keys)
 {
     uint64_t missed = 0, value, nodes;
     for (size_t i = 0; i < KEYS; i++)
-        missed += CALL(lookup)(pool, WORDS, keys[i], &value, &nodes) != 0;
+        missed += look(pool, WORDS, keys[i], &value, &nodes) != 0;
     return missed;
+}
+
+static uint64_t PASS(hit)(const uint64_t *keys)
+{
+    return PASS(hits)(CALL(lookup), keys);
+}
+
+static uint64_t PASS(miss)(const uint64_t *keys)
+{
+    return PASS(misses)(CALL(lookup), keys);
+}
+
+static uint64_t PASS(quick_hit)(const uint64_t *keys)
+{
+    return PASS(hits)(CALL(lookup_quick), keys);
+}
+
+static uint64_t PASS(quick_miss)(const uint64_t *keys)
+{
+    return PASS(misses)(CALL(lookup_quick), keys);
 }
 
 static size_t PASS(list)(uint64_t *keys, uint64_t *values)

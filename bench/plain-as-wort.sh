@@ -5,7 +5,7 @@
 set -eu
 here=$(dirname "$0")
 sources=plain.c
-calls="lookup list plan_put plan_delete plan_open step finish"
+calls="lookup lookup_quick list plan_put plan_delete plan_open step finish"
 if [ "$1" = --by-plan ]; then
     sources="plain.c by-plan.c"
     shift

@@ -1,4 +1,4 @@
-/* The rules of document 01 in plain C, written for speed: no checks but the document's.
+/* The rules of document 01, with what document 02 has added so far, in plain C, written for speed: no checks but the documents'.
  * A whole put or delete decides first and then stores straight into the pool; it builds no plan. */
 #include "plain.h"
 #include <stdbool.h>
@@ -85,9 +85,19 @@ static inline bool accepted(uint64_t header, unsigned w)
     return depth_of(header) >= w && branch_place(header) <= LAST_DIGIT;
 }
 
+/* A stored digit differs from the key's: of the twelve places those below the length, of an accepted header. Most have length 0. */
+static inline bool differs(uint64_t header, uint64_t key)
+{
+    unsigned length = header >> 48 & 255;
+    uint64_t apart = (key << 4 * depth_of(header) ^ header << 16) >> 16 << 16;
+    return __builtin_expect(length, 0) && apart >> (64 - 4 * length);
+}
+
 /* ---- lookup ---- */
 
-uint64_t plain_lookup(const uint64_t *pool, size_t words, uint64_t key, uint64_t *value, uint64_t *nodes)
+/* Inlined with a constant for `quick`: the plain lookup's loop compares no stored digits. */
+static inline __attribute__((always_inline)) uint64_t look_up(const uint64_t *pool, size_t words, uint64_t key, bool quick,
+                                                              uint64_t *value, uint64_t *nodes)
 {
     uint64_t n = capacity(pool, words);
     uint64_t met = 0, number = SIZE;
@@ -99,10 +109,14 @@ uint64_t plain_lookup(const uint64_t *pool, size_t words, uint64_t key, uint64_t
             const uint64_t *node = pool + header_place(reference, n);
             if (!accepted(node[0], w))
                 break;
+            met++;
+            if (quick && differs(node[0], key)) {
+                reference = 0;
+                break;
+            }
             unsigned b = branch_place(node[0]);
             reference = node[1 + digit(key, b)];
             w = b + 1;
-            met++;
         }
         if (is_leaf(reference, n)) {
             const uint64_t *leaf = pool + key_place(reference);
@@ -115,6 +129,16 @@ uint64_t plain_lookup(const uint64_t *pool, size_t words, uint64_t key, uint64_t
     }
     *nodes = met;
     return number;
+}
+
+uint64_t plain_lookup(const uint64_t *pool, size_t words, uint64_t key, uint64_t *value, uint64_t *nodes)
+{
+    return look_up(pool, words, key, false, value, nodes);
+}
+
+uint64_t plain_lookup_quick(const uint64_t *pool, size_t words, uint64_t key, uint64_t *value, uint64_t *nodes)
+{
+    return look_up(pool, words, key, true, value, nodes);
 }
 
 /* ---- the lowest leaf ---- */

@@ -9,6 +9,7 @@
 uint64_t plain_format(uint64_t *pool, size_t words, uint8_t *map, size_t bytes, uint64_t n);
 uint64_t plain_open(uint64_t *pool, size_t words, uint8_t *map, size_t bytes, uint64_t *keys, uint64_t *headers);
 uint64_t plain_lookup(const uint64_t *pool, size_t words, uint64_t key, uint64_t *value, uint64_t *nodes);
+uint64_t plain_lookup_quick(const uint64_t *pool, size_t words, uint64_t key, uint64_t *value, uint64_t *nodes);
 uint64_t plain_list(const uint64_t *pool, size_t words, uint64_t from,
                     uint64_t *keys, size_t keys_len, uint64_t *values, size_t values_len, uint64_t *count, uint64_t *more);
 uint64_t plain_put(uint64_t *pool, size_t words, uint8_t *map, size_t bytes, uint64_t key, uint64_t value, uint64_t *stores);

@@ -36,7 +36,7 @@ fi
 [ -f "$lib/libwort.a" ] || fail "libwort.a is not in $lib."
 
 mkdir -p "$work" "$docs"
-for call in format open lookup list put delete plan_put plan_delete plan_open step finish; do
+for call in format open lookup lookup_quick list put delete plan_put plan_delete plan_open step finish; do
     echo "plain_$call again_$call"
 done >"$work/again.syms"
 gcc -O3 -Wall -Wextra -c "$root/bench/plain.c" -o "$work/plain.o"

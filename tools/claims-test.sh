@@ -64,6 +64,10 @@ mistake "a map that marks too little is exact" $specs/Tables.antt $'\n  pub kept
 mistake "a refusal may change the map" $specs/Demand2.antt $'\n  pub same-map : left .map ≡ map' '' "Demand2.antt: \`Refused\` $unread"
 mistake "a listing answers as the table from 0 alone" $specs/Tables.antt \
     'listOf pool from ks vs ≡ shownRows (upFrom from rows) ks vs' 'listOf pool 0 ks vs ≡ shownRows (upFrom 0 rows) ks vs' "Tables.antt: \`Reads\` $unread"
+mistake "the quick lookup need not answer as the table" $specs/Tables.antt $'\n  pub quick : (k : ℕ) → Finds (T k) (quickOf pool k)' '' \
+    "Tables.antt: \`Reads\` $unread"
+mistake "the quick lookup may give another value" $specs/Quick.antt ' × (quickOf pool k .value ≡ lookupOf pool k .value)' '' \
+    "Quick.antt: \`AsLookup\` $unread"
 mistake "names have 32 bits" crates/listing/specs/Rows.antt 'Word x = x < 2 ^ 64' 'Word x = x < 2 ^ 32' "Rows.antt: \`Word\` $unread"
 mistake "room for another number of names" $specs/Demand3.antt \
     '(r : Reading pool bytes T) × (r .sound .n ≡ n)' 'Reading pool bytes T' "Demand3.antt: \`Promised\` $unread"

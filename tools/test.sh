@@ -44,7 +44,7 @@ if ! rt staticlib wort || ! (cd host && ../tools/for-x86-64.sh cargo test --rele
 fi
 part "the stack of each call, as compiled"
 tools/stack.py --check docs/AUDIT.md
-tools/stack.py --below 1024 wort_lookup wort_put wort_delete wort_plan_put wort_plan_delete wort_step wort_finish
+tools/stack.py --below 1024 wort_lookup wort_lookup_quick wort_put wort_delete wort_plan_put wort_plan_delete wort_step wort_finish
 part "stores at the machine"
 tools/stores.sh
 tools/stores.sh --can-fail

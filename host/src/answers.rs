@@ -87,6 +87,7 @@ pub trait Calls {
     fn format(&self, pool: &mut [u64], map: &mut [u8], n: u64) -> u64;
     fn open(&self, pool: &mut [u64], map: &mut [u8]) -> Opened;
     fn lookup(&self, pool: &[u64], key: u64) -> Found;
+    fn lookup_quick(&self, pool: &[u64], key: u64) -> Found;
     fn list(&self, pool: &[u64], from: u64, keys: &mut [u64], values: &mut [u64]) -> Listed;
     fn put(&self, pool: &mut [u64], map: &mut [u8], key: u64, value: u64) -> Made;
     fn delete(&self, pool: &mut [u64], map: &mut [u8], key: u64) -> Made;

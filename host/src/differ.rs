@@ -151,7 +151,8 @@ impl Differ {
     /// Of a hundred, how many go to which call.
     fn make_call(&mut self, which: usize, n: usize) -> Result<(), String> {
         match which {
-            0..=17 => self.lookup(),
+            0..=11 => self.lookup(),
+            12..=17 => self.lookup_quick(),
             18..=29 => self.list(n),
             30..=49 => self.put(),
             50..=61 => self.delete(),
@@ -189,6 +190,15 @@ impl Differ {
         let ours = self.read(|pool, _| Library.lookup(pool, key));
         let theirs = Model.lookup(&self.twin.pool, key);
         self.compare("lookup", ours.number, ours.nodes, &ours, &theirs, key)
+    }
+
+    fn lookup_quick(&mut self) -> Result<(), String> {
+        let key = self.key();
+        let ours = self.read(|pool, _| Library.lookup_quick(pool, key));
+        let theirs = Model.lookup_quick(&self.twin.pool, key);
+        let plain = Model.lookup(&self.twin.pool, key);
+        *self.tally.entry((BESIDE, ours.number, plain.number)).or_default() += 1;
+        self.compare("lookup_quick", ours.number, ours.nodes, &ours, &theirs, key)
     }
 
     fn list(&mut self, n: usize) -> Result<(), String> {
@@ -425,10 +435,11 @@ fn one_too_large(made: &mut Made) {
 }
 
 /// Every number that each call can give: a run that has not met one of them has not tried the rules.
-pub const NUMBERS: [(&str, &[u64]); 11] = [
+pub const NUMBERS: [(&str, &[u64]); 12] = [
     ("format", &[DONE, SIZE]),
     ("open", &[DONE, SIZE, DAMAGE]),
     ("lookup", &[DONE, SIZE, DAMAGE, ABSENT]),
+    ("lookup_quick", &[DONE, SIZE, DAMAGE, ABSENT]),
     ("list", &[DONE, SIZE, DAMAGE, BUFFERS]),
     ("put", &[DONE, SIZE, DAMAGE, NO_ROOM]),
     ("delete", &[DONE, SIZE, DAMAGE, ABSENT]),
@@ -445,9 +456,15 @@ pub fn times(tally: &Tally, call: &str, number: u64) -> u64 {
     met.map(|(_, count)| count).sum()
 }
 
-/// What the calls that end well count: put's and delete's stores, lookup's nodes, open's headers (2 for more), listing's
+/// The quick lookup's number, beside that of a plain one of the same key.
+pub const BESIDE: &str = "lookup_quick beside lookup";
+
+/// On pools that are not sound the quick lookup may miss what the plain one finds, or where it meets damage.
+pub const MISSED: [u64; 2] = [DONE, DAMAGE];
+
+/// What the calls that end well count: put's and delete's stores, a lookup's nodes, open's headers (2 for more), listing's
 /// further entry, finish's effect.
-pub const COUNTS: [(&str, &[u64]); 9] = [
+pub const COUNTS: [(&str, &[u64]); 10] = [
     ("put", &[1, 3, 20, 21]),
     ("delete", &[1, 2]),
     ("plan_put", &[1, 3, 20, 21]),
@@ -455,6 +472,7 @@ pub const COUNTS: [(&str, &[u64]); 9] = [
     ("plan_open", &[0, 1]),
     ("open", &[0, 1, 2]),
     ("lookup", &[0, 1, 2, 3, 4, 5, 6, 7, 8, 9, 10, 11, 12, 13, 14, 15, 16]),
+    ("lookup_quick", &[0, 1, 2, 3, 4, 5, 6, 7, 8, 9, 10, 11, 12, 13, 14, 15, 16]),
     ("list", &[0, 1]),
     ("finish", &[0, 1, 2, 3, 4]),
 ];

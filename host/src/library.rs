@@ -17,6 +17,7 @@ mod c {
             headers: *mut u64,
         ) -> u64;
         pub fn wort_lookup(pool: *const u64, words: usize, key: u64, value: *mut u64, nodes: *mut u64) -> u64;
+        pub fn wort_lookup_quick(pool: *const u64, words: usize, key: u64, value: *mut u64, nodes: *mut u64) -> u64;
         pub fn wort_list(
             pool: *const u64,
             words: usize,
@@ -113,6 +114,13 @@ impl Calls for Library {
         let (mut value, mut nodes) = (Fields::<1>::new(), Fields::<1>::new());
         // SAFETY: the pool is lent with its own length, the fields for one word each.
         let number = unsafe { c::wort_lookup(pool.as_ptr(), pool.len(), key, value.at(), nodes.at()) };
+        Found { number, value: value.read()[0], nodes: nodes.read()[0] }
+    }
+
+    fn lookup_quick(&self, pool: &[u64], key: u64) -> Found {
+        let (mut value, mut nodes) = (Fields::<1>::new(), Fields::<1>::new());
+        // SAFETY: the pool is lent with its own length, the fields for one word each.
+        let number = unsafe { c::wort_lookup_quick(pool.as_ptr(), pool.len(), key, value.at(), nodes.at()) };
         Found { number, value: value.read()[0], nodes: nodes.read()[0] }
     }
 

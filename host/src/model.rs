@@ -1,6 +1,7 @@
-//! A model of document 01, written from its text: every call, every answer, every word, byte and buffer afterwards.
+//! A model of document 01, with what document 02 has added so far, written from their text: every call, every answer, every word, byte
+//! and buffer afterwards.
 //!
-//! It is made to be read beside the document, not to be quick. Comments give the document's own words.
+//! It is made to be read beside the documents, not to be quick. Comments give the documents' own words.
 
 use crate::answers::*;
 
@@ -51,6 +52,19 @@ fn depth_of(header: u64) -> u64 {
 
 fn length_of(header: u64) -> u64 {
     (header >> 48) & 255
+}
+
+/// Place i of the twelve that a header stores.
+fn stored_digit(header: u64, i: u64) -> u64 {
+    assert!(i < STORED_DIGITS);
+    (header >> (44 - 4 * i)) & 15
+}
+
+/// Document 02, (i): whether a stored digit differs from the key's. Compared are the places below the smaller of length and
+/// twelve, each with the key's digit at the header's own depth + place.
+fn differs(header: u64, key: u64) -> bool {
+    let used = length_of(header).min(STORED_DIGITS);
+    (0..used).any(|i| stored_digit(header, i) != digit(key, depth_of(header) + i))
 }
 
 /// "At a node with depth h it is damage if h < w, length > 15 or b > 15": the branch place, or nothing for damage.
@@ -140,15 +154,20 @@ struct Met {
 #[derive(Debug)]
 struct Walk {
     met: Vec<Met>,
-    /// "The walk ends at a leaf, at an empty reference or at damage": never at a node.
+    /// "The walk ends at a leaf, at an empty reference or at damage": at a node only where it was to stop there.
     end: Target,
     /// The word of the last reference, and the walk depth there.
     place: usize,
     w: u64,
 }
 
-/// "It begins at the root reference with walk depth w = 0."
+/// "Stored digits are not compared; the leaf's key decides."
 fn walk(pool: &[u64], n: usize, key: u64) -> Walk {
+    walk_until(pool, n, key, |_| false)
+}
+
+/// "It begins at the root reference with walk depth w = 0." It ends at the first node whose header is accepted and then is to stop it.
+fn walk_until(pool: &[u64], n: usize, key: u64, stops: impl Fn(u64) -> bool) -> Walk {
     let mut met = Vec::with_capacity(CHILDREN);
     let (mut place, mut w) = (ROOT, 0);
     loop {
@@ -156,11 +175,15 @@ fn walk(pool: &[u64], n: usize, key: u64) -> Walk {
         let Target::Node(node) = end else {
             return Walk { met, end, place, w };
         };
-        let Some(b) = branch_place(pool[header_place(n, node)], w) else {
+        let head = pool[header_place(n, node)];
+        let Some(b) = branch_place(head, w) else {
             let end = Target::Damage;
             return Walk { met, end, place, w };
         };
         met.push(Met { node, place, w, b });
+        if stops(head) {
+            return Walk { met, end, place, w };
+        }
         place = child_place(n, node, digit(key, b));
         w = b + 1;
     }
@@ -184,6 +207,16 @@ fn lowest_leaf(pool: &[u64], n: usize, reference: u64, w: u64) -> Option<usize> 
 
 fn children(pool: &[u64], n: usize, node: usize) -> &[u64] {
     &pool[child_place(n, node, 0)..][..CHILDREN]
+}
+
+/// What a lookup answers by its walk; a walk that was stopped at a node misses.
+fn found(pool: &[u64], key: u64, walk: &Walk) -> Found {
+    let (number, value) = match walk.end {
+        Target::Leaf(leaf) if pool[key_place(leaf)] == key => (DONE, pool[value_place(leaf)]),
+        Target::Leaf(_) | Target::Empty | Target::Node(_) => (ABSENT, 0),
+        Target::Damage => (DAMAGE, 0),
+    };
+    Found { number, value, nodes: walk.met.len() as u64 }
 }
 
 // ---- plans ----
@@ -645,13 +678,15 @@ impl Calls for Model {
         let Some(n) = capacity(pool) else {
             return Found { number: SIZE, value: 0, nodes: 0 };
         };
-        let walk = walk(pool, n, key);
-        let (number, value) = match walk.end {
-            Target::Leaf(leaf) if pool[key_place(leaf)] == key => (DONE, pool[value_place(leaf)]),
-            Target::Leaf(_) | Target::Empty => (ABSENT, 0),
-            Target::Node(_) | Target::Damage => (DAMAGE, 0),
+        found(pool, key, &walk(pool, n, key))
+    }
+
+    /// Document 02, (i): "a lookup that compares stored digits on the way and stops at the first that differs".
+    fn lookup_quick(&self, pool: &[u64], key: u64) -> Found {
+        let Some(n) = capacity(pool) else {
+            return Found { number: SIZE, value: 0, nodes: 0 };
         };
-        Found { number, value, nodes: walk.met.len() as u64 }
+        found(pool, key, &walk_until(pool, n, key, |head| differs(head, key)))
     }
 
     fn list(&self, pool: &[u64], from: u64, keys: &mut [u64], values: &mut [u64]) -> Listed {

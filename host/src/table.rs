@@ -47,16 +47,21 @@ impl Operation {
     }
 }
 
-/// Whether lookup and listing equal the table: each key looked up, the whole listed, and every listed name opened.
+/// Whether both lookups and listing equal the table: each key looked up, the whole listed, and every listed name opened.
 pub fn reads_as(calls: &impl Calls, pool: &[u64], table: &Table, keys: &[u64]) -> Result<(), String> {
     for key in keys {
-        let found = calls.lookup(pool, *key);
+        let (plain, quick) = (calls.lookup(pool, *key), calls.lookup_quick(pool, *key));
         let wanted = match table.get(key) {
             Some(value) => (DONE, *value),
             None => (ABSENT, 0),
         };
-        if (found.number, found.value) != wanted {
-            return Err(format!("lookup of {key:016x}: {found:?}, the table holds {wanted:?}"));
+        for found in [plain, quick] {
+            if (found.number, found.value) != wanted {
+                return Err(format!("lookup of {key:016x}: {plain:?}, quick {quick:?}, the table holds {wanted:?}"));
+            }
+        }
+        if quick.nodes > plain.nodes {
+            return Err(format!("lookup of {key:016x}: {plain:?}, and by the quick way more nodes: {quick:?}"));
         }
     }
     lists_as(calls, pool, table, 0, pool[0] as usize)

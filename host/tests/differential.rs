@@ -1,7 +1,7 @@
 //! A bounded run of the library against the model. All memory is lent between guard pages.
 
-use wort_host::answers::{map_bytes, pool_words, DONE};
-use wort_host::differ::{times, Differ, COUNTS, NUMBERS};
+use wort_host::answers::{map_bytes, pool_words, ABSENT, DONE};
+use wort_host::differ::{times, Differ, BESIDE, COUNTS, MISSED, NUMBERS};
 
 const CALLS: u64 = 2_000_000;
 
@@ -24,6 +24,10 @@ fn the_library_is_the_model() {
             let met = differ.tally.contains_key(&(call, DONE, *count));
             assert!(met, "{call} never counted {count}: the run is too narrow");
         }
+    }
+    for plain in MISSED {
+        let met = differ.tally.contains_key(&(BESIDE, ABSENT, plain));
+        assert!(met, "no quick miss where lookup gives {plain}: the run is too narrow");
     }
 }
 

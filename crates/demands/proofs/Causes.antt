@@ -21,7 +21,7 @@ use Rattle.plan.specs.declared.Effect.{Effect}
 use Rattle.plan.specs.declared.Effect.the-variants.{Nothing, TakesLeaf, TakesBoth, FreesLeaf, FreesBoth}
 use Rattle.finishing.specs.Finishes.{storesOf, finishOf}
 use Rattle.plan.specs.declared.Plan.{Plan}
-use Rattle.finding.specs.Lookups.{Answer, answer, foundIn, lookupOf}
+use Rattle.finding.specs.Lookups.{Answer, answer, foundIn, lookupOf, quickIn, quickOf}
 use Rattle.listing.specs.Listings.{Shown, shown, listed, listIn, listOf}
 use Rattle.rules.specs.Puts.{putAt, putFile, putIn, putPlan}
 use Rattle.rules.specs.Deletes.{deleteIn, deletePlan}
@@ -34,11 +34,12 @@ use Rattle.survey.proofs.SoundHeld.{held-is-sound, sound-holds, sound-capacity}
 use Rattle.survey.proofs.HeldSurvey.{held-sound}
 use Rattle.opening.specs.Openings.{mendFirst, openIn, openPlan, opened, Left, left, restored, leftJudged, leftIn, openOf}
 use Rattle.opening.proofs.Answers.{plan-modest}
-use Rattle.demands.specs.Ways.{Lookup, Delete, Put, Listing}
+use Rattle.demands.specs.Ways.{Lookup, Quick, Delete, Put, Listing}
 use Rattle.demands.specs.Causes.{Exactly, Asks, so, not-so, Fits, FitsMap, After, Retires, Named, Causes}
 use Rattle.demands.proofs.Ways.{sized-holds, fits-holds}
 use Rattle.demands.proofs.Exactly.{wrong-holds, exactly, after-pool, after-map, asked, retires}
 use Rattle.demands.proofs.LookupCauses.{lookup-is, lookup-some}
+use Rattle.demands.proofs.QuickCauses.{quick-is, quick-some}
 use Rattle.demands.proofs.DeleteCauses.{delete-is, delete-some}
 use Rattle.demands.proofs.PutCauses.{put-is, put-some}
 use Rattle.demands.proofs.ListCauses.{list-is, list-some}
@@ -53,6 +54,12 @@ module _ (pool : List ℕ) where
   lookup-causes k =
       after-pool (λ (a : Answer). a) (answer 1 0 0) (λ n. Lookup pool n k) pool (foundIn pool k) refl
       (λ n z. exactly (Lookup pool n k) (lookup-some pool n k) (lookup-is pool n k))
+
+  quick-causes : (k : ℕ) → Exactly (quickOf pool k) (After (answer 1 0 0) (Fits pool) (λ n. Quick pool n k))
+  unfolding quickOf
+  quick-causes k =
+      after-pool (λ (a : Answer). a) (answer 1 0 0) (λ n. Quick pool n k) pool (quickIn pool k) refl
+      (λ n z. exactly (Quick pool n k) (quick-some pool n k) (quick-is pool n k))
 
   list-causes : (from : ℕ) (ks vs : List ℕ)
       → Exactly (listOf pool from ks vs .answer) (After (listed 1 0 false) (Fits pool) (λ n. Listing pool n from (length ks) (length vs)))
@@ -160,6 +167,7 @@ finish-asked (FreesBoth a b) bytes = stores-asked bytes a b 0 (λ h k. (h, k)) (
 pub causes : Causes
 causes = record {
   lookup = lookup-causes;
+  quick = quick-causes;
   list = list-causes;
   plan-put = plan-put-causes;
   put = λ pool bytes k v. rw (put-whole-number pool bytes k v) (plan-put-causes pool bytes k v);

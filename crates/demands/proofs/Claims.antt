@@ -10,6 +10,7 @@ use Rattle.demands.proofs.Question.{listed-iff-openable}
 use Rattle.demands.proofs.ByPlan.{by-plan}
 use Rattle.demands.proofs.FromC.{returns}
 use Rattle.demands.proofs.Opening.{opens}
+use Rattle.demands.proofs.Quick.{as-lookup}
 use Rattle.demands.proofs.Unique.{unique}
 use Rattle.demands.proofs.Cases.{cases-hold}
 use Rattle.demands.proofs.StoreLists.{store-lists-hold}
@@ -29,6 +30,7 @@ claims = record {
   by-plan = by-plan;
   from-c = returns;
   opening = opens;
+  quick = as-lookup;
   one-outcome = unique;
   examples = cases-hold;
   store-lists = store-lists-hold;

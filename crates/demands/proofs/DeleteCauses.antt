@@ -14,6 +14,7 @@ use Rattle.digits.specs.Choice.{pick}
 use Rattle.digits.specs.Digits.{digitOf}
 use Rattle.digits.specs.Loops.{scan, tally}
 use Rattle.digits.proofs.Digits.{digit-lt}
+use Rattle.digits.proofs.Loops.{tally-none, tally-some}
 use Rattle.pool.specs.Places.{keyAt, childAt, childWord}
 use Rattle.pool.specs.Refs.{refOf}
 use Rattle.pool.specs.declared.Ref.the-variants.{Empty, Leaf}
@@ -23,7 +24,7 @@ use Rattle.layout.proofs.Base as layout
 use Rattle.walk.specs.Walks.{below, walkOf, isChild, childrenOf, otherChild}
 use Rattle.walk.specs.declared.Spot.{Spot}
 use Rattle.walk.proofs.Nodes.{is-child, other-child-there, other-child-off}
-use Rattle.listing.proofs.Loops.{scan-passes, tally-none, tally-some}
+use Rattle.listing.proofs.Loops.{scan-passes}
 use Rattle.rules.specs.Deletes.{liftOf, mergeWith, unlinkOf, deleteAt}
 use Rattle.finding.specs.Lookups.{Answer, answer}
 use Rattle.survey.specs.Soundness.{at, branch}

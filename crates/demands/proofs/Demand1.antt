@@ -23,7 +23,7 @@ use Rattle.plan.specs.declared.Effect.the-variants.{Nothing, TakesLeaf, TakesBo
 use Rattle.plan.proofs.Laws.{plan-word, plan-unused, words-at}
 use Rattle.finding.specs.Lookups.{Answer}
 use Rattle.listing.specs.Listings.{Shown}
-use Rattle.finding.proofs.Answers.{Looks, lookup-answers}
+use Rattle.finding.proofs.Answers.{Looks, lookup-answers, quick-answers}
 use Rattle.finding.proofs.Answers as finding
 use Rattle.listing.proofs.Answers.{Lists, list-answers}
 use Rattle.listing.proofs.Answers as listing
@@ -215,6 +215,7 @@ opens pool bytes = record {
 pub demand1 : Demand1
 demand1 = record {
   lookup = λ pool k a e. rw e (looked (lookup-answers pool k));
+  quick = λ pool k a e. rw e (looked (quick-answers pool k));
   list = λ pool from ks vs s e. rw e (shows pool from ks vs (list-answers pool from ks vs));
   plan-put = λ pool map k v p.
       plans (0 ∷ 1 ∷ 2 ∷ 4 ∷ 7 ∷ []) pool (putPlan pool map k v) (put-few pool map k v) (put-inside pool map k v)

@@ -12,6 +12,7 @@ pub mod Demand1
 pub mod Ways
 pub mod Exactly
 pub mod LookupCauses
+pub mod QuickCauses
 pub mod DeleteCauses
 pub mod PutCauses
 pub mod ListCauses
@@ -20,6 +21,7 @@ pub mod Demand2
 pub mod Demand3
 pub mod Question
 pub mod Opening
+pub mod Quick
 pub mod Stales
 pub mod Claims
 pub mod Examples

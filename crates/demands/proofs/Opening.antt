@@ -13,8 +13,8 @@ use Rattle.digits.specs.Headers.{depthOf}
 use Rattle.tree.specs.Tree.{Tree, node, dep, find, Stands}
 use Rattle.layout.proofs.Held.{node-slot}
 use Rattle.held.specs.Ways.{dig, mem}
-use Rattle.finding.specs.Lookups.{lookupOf, Finds}
-use Rattle.finding.proofs.HeldLookup.{lookup-held}
+use Rattle.finding.specs.Lookups.{Answer, lookupOf, quickOf, Finds}
+use Rattle.finding.proofs.HeldLookup.{lookup-held, quick-held}
 use Rattle.listing.proofs.HeldListing.{list-held}
 use Rattle.survey.specs.Soundness.{Sound, Straight}
 use Rattle.survey.proofs.SoundTree.{sound-held}
@@ -56,15 +56,17 @@ module _ (pool : List ℕ) (n : ℕ) (pos : 1 ≤ n) (cap : n ≤ 1024) (t : Tre
   -- both hold the same tree, so a table that one reads as the other reads as
   mended-reads : (T : Table) → Reads pool T → Reads mended T
   mended-reads T r = record {
-    lookup = λ k.
-        subst (λ (o : Option ℕ). Finds o (lookupOf mended k))
-        (sym (finds-one (T k) (find dig k t) (lookupOf pool k) (r .lookup k) (lookup-held pool n t fits (P .held) k)))
-        (lookup-held mended n t fits′ (P′ .held) k);
+    lookup = λ k. as-before k (lookupOf mended k) (lookup-held mended n t fits′ (P′ .held) k);
+    quick = λ k. as-before k (quickOf mended k) (quick-held mended n t fits′ (P′ .held) k);
     rows = r .rows;
     written = r .written;
     listing = λ from ks vs a b. list-held mended n t fits′ (P′ .held) from ks vs a b ∙ sym (list-held pool n t fits (P .held) from ks vs a b)
         ∙ r .listing from ks vs a b;
   }
+    where
+      as-before : (k : ℕ) (a : Answer) → Finds (find dig k t) a → Finds (T k) a
+      as-before k a =
+          subst (λ (o : Option ℕ). Finds o a) (sym (finds-one (T k) (find dig k t) (lookupOf pool k) (r .lookup k) (lookup-held pool n t fits (P .held) k)))
 
   read-state : (T : Table) → Names T → Reads pool T → State n pool none T
   read-state T ok r = record {

@@ -178,7 +178,7 @@ module _ (pool : List ℕ) (n : ℕ) (bytes : List ℕ) where
             child-empty : {last : ℕ} → Last last → spot pool n W .nodes + 1 ≡ last → at pool n (chosen pool n key j) ≡ Empty
             child-empty (at-leaf p q) e = absurd (omega arith)
             child-empty (at-child W′ a′ e′ q) e =
-                let o = one-way pool n W W′ (omega (arith, spot-is pool n W .2)) in
+                let o = one-way pool n W W′ (omega (arith, spot-is pool n W .2)) .0 in
                 ap (λ (x : ℕ). at pool n (chosen pool n key x)) (same-node pool n o (a .node) (a′ .node)) ∙ e′
 
             last? : branch pool n j ≡ f → Same? (spot pool n W .nodes + 1) (S .last) → Placing

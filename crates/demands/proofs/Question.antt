@@ -1,8 +1,8 @@
--- In every state that is reached a name is listed if and only if lookup opens it, with the same file number: both answer as the rows of one table.
+-- In every state that is reached a name is listed if and only if a lookup opens it, with the same file number: all three answer as the rows of one table.
 -- Assumes nothing.
 use mathlib.Core.Path.{_≡_, refl, sym, ap, _∙_}
 use mathlib.Core.Bool.{Bool}
-use mathlib.Core.Logic.{_↔_}
+use mathlib.Core.Logic.{_↔_, _⊎_, inl, inr}
 use mathlib.Core.Option.{Option, none, some}
 use mathlib.Core.List.{List, [], _∷_, _++_, map}
 use Prim.Native.Nat.{ℕ, zero, suc, _≤_, _<_}
@@ -16,8 +16,9 @@ use Rattle.tree.specs.Stores.{Store}
 use Rattle.tree.proofs.Basics.{Same?, same, other, same?}
 use Rattle.layout.proofs.Room.{leaves-fit}
 use Rattle.held.specs.Ways.{mem}
-use Rattle.finding.specs.Lookups.{Answer, lookupOf, Finds}
+use Rattle.finding.specs.Lookups.{Answer, LookupGives, QuickGives, Finds}
 use Rattle.listing.specs.Rows.{upFrom, shownRows}
+use Rattle.demands.specs.Tables.{Table, Reads}
 use Rattle.demands.specs.Demand3.{Op, Cut, InOrder, Loosely}
 use Rattle.demands.specs.Question.{InListing, Openable, ListedIffOpenable}
 use Rattle.demands.proofs.Readings.{state-reads, rows-leaves}
@@ -83,6 +84,10 @@ openable-found : (o : Option ℕ) (a : Answer) → Finds o a → (v : ℕ) → (
 openable-found none a f v = ((λ e. let z : _≡_ {A = ℕ} 0 1 = cc in absurd (omega arith)), (λ e. absurd (omega (arith, e .0, f .0))))
 openable-found (some u) a f v = ((λ e. let q : u ≡ v = cc in (f .0, f .1 ∙ q)), (λ e. ap some (sym (f .1) ∙ e .1)))
 
+by-either : {pool : List ℕ} {T : Table} → Reads pool T → (k : ℕ) {a : Answer} → LookupGives pool k a ⊎ QuickGives pool k a → Finds (T k) a
+by-either R k (inl e) = rw e (R .lookup k)
+by-either R k (inr e) = rw e (R .quick k)
+
 -- ---- every state that is reached
 module _ (C : Cut) (within : (o : Op) (σ τ : List Store) (b : Bool) → 0 < length σ → C o σ τ b → Loosely o σ τ b) where
   listed-iff-openable-of : ListedIffOpenable C
@@ -93,8 +98,8 @@ module _ (C : Cut) (within : (o : Op) (σ τ : List Store) (b : Bool) → 0 < le
       let shown : s ≡ shownRows (R .rows) ks vs =
       e ∙ R .listing 0 ks vs (λ z. omega (arith, S .pos)) equal ∙ ap (λ (l : List (Entry ℕ)). shownRows l ks vs) (up-from-zero (R .rows)) in
       let row = listed-row (R .rows) ks vs few k v in
-      let found = openable-found (T k) (lookupOf pool k) (R .lookup k) v in
-      rw (shown, q) (
+      let found = openable-found (T k) a (by-either R k q) v in
+      rw shown (
         (λ l. let i = row .0 l in found .0 (sym (R .written .same k) ∙ row-look (R .rows) (R .written .rising) k v (i .0) (i .1) (i .2) (i .3))),
         (λ o. row .1 (look-row (R .rows) k v (R .written .same k ∙ found .1 o))),
       )

@@ -18,9 +18,9 @@ use Rattle.tree.proofs.Listing.{entries-length, rising-decided}
 use Rattle.layout.specs.Layout.{Held}
 use Rattle.held.specs.Ways.{dig, mem}
 use Rattle.held.specs.Maps.{Marked}
-use Rattle.finding.specs.Lookups.{Answer, lookupOf, Finds}
+use Rattle.finding.specs.Lookups.{Answer, lookupOf, quickOf, Finds}
 use Rattle.listing.specs.Rows.{Words}
-use Rattle.finding.proofs.HeldLookup.{lookup-held}
+use Rattle.finding.proofs.HeldLookup.{lookup-held, quick-held}
 use Rattle.listing.proofs.HeldListing.{list-held, rows-held, names-held}
 use Rattle.writing.proofs.Wholes.{size-same}
 use Rattle.survey.specs.Soundness.{Sound}
@@ -66,6 +66,7 @@ module _ {n : ℕ} {pool : List ℕ} {map : Option (List ℕ)} {T : Table} (S : 
       let R = rows-held pool n (S .t) (S .holds .held) (tree-names S) in
       record {
         lookup = λ k. subst (λ (o : Option ℕ). Finds o (lookupOf pool k)) (sym (S .table k)) (lookup-held pool n (S .t) (fits S) (S .holds .held) k);
+        quick = λ k. subst (λ (o : Option ℕ). Finds o (quickOf pool k)) (sym (S .table k)) (quick-held pool n (S .t) (fits S) (S .holds .held) k);
         rows = entries (S .t);
         written = record { rising = R .0; same = λ k. R .1 k ∙ sym (S .table k) };
         listing = λ from ks vs a b. list-held pool n (S .t) (fits S) (S .holds .held) from ks vs a b;

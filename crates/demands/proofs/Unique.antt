@@ -36,6 +36,7 @@ handed-one Gives p o = record {
 pub unique : Unique
 unique = record {
   lookup = λ pool k. equation _;
+  quick = λ pool k. equation _;
   list = λ pool from ks vs. equation _;
   plan-put = λ pool map k v. equation _;
   plan-delete = λ pool k. equation _;

@@ -1,18 +1,19 @@
 -- The ways of specs/Ways and the definitions that compute them: where a way leads the definition comes to, and every way leads somewhere.
 -- Assumes nothing.
 use mathlib.Core.Path.{_≡_, refl, sym, ap, _∙_}
-use mathlib.Core.Bool.{false}
+use mathlib.Core.Bool.{true, false}
 use mathlib.Core.Logic.{_≢_, _⊎_, inl, inr}
 use mathlib.Core.Option.{Option, none, some}
 use mathlib.Core.List.{List}
 use Prim.Native.Nat.{ℕ, zero, suc, _+_, _-_, _*_, _≤_, _<_}
 use native.Mathlib.Decide.{decLt}
 use native.Mathlib.Omega.{arith}
-use borrow.Author.Tests.{lt-ltb, le-ltb, eq-eqb, eqb-true, not-false}
+use borrow.Author.Tests.{lt-ltb, le-ltb, lt-leb, le-leb, eq-eqb, eqb-true, not-false}
 use lib.Dec.{eqb}
 use lib.ListN.{length, getD}
 use Rattle.digits.specs.Digits.{digitOf}
 use Rattle.digits.specs.Headers.{lengthOf}
+use Rattle.digits.proofs.Loops.{tally-none, tally-some}
 use Rattle.pool.specs.Sizes.{sizeOf, capacityOf, Sized}
 use Rattle.pool.specs.Places.{wordAt, headerAt, childAt, childWord}
 use Rattle.pool.specs.Refs.{Within}
@@ -22,7 +23,7 @@ use Rattle.pool.specs.declared.Ref.the-variants.{Empty, Leaf, Node, Bad}
 use Rattle.pool.proofs.Sizes.{size-fits}
 use Rattle.pool.proofs.Refs.{within}
 use Rattle.tree.proofs.Near.{scan-finds}
-use Rattle.walk.specs.Walks.{headOf, below, endOf, walkFrom, walkTo, walkOf, childrenOf, lowestChild, isChild, lowestOf}
+use Rattle.walk.specs.Walks.{headOf, below, endOf, Test, walkFrom, walkTo, walkOf, childrenOf, lowestChild, isChild, lowestOf}
 use Rattle.walk.specs.Walks as walk
 use Rattle.walk.specs.Ends as walk-end
 use Rattle.walk.specs.declared.Spot.{Spot}
@@ -34,7 +35,7 @@ use Rattle.walk.proofs.Loops.{scan-true}
 use Rattle.walk.proofs.Nodes.{is-child, lowest-child-there}
 use Rattle.walk.proofs.Walks.{walk-ends, walk-damaged, walk-stops, walk-on}
 use Rattle.walk.proofs.LowestLeaf.{lowest-ends, lowest-damaged, lowest-childless, lowest-on}
-use Rattle.listing.proofs.Loops.{scan-passes, tally-none, tally-some}
+use Rattle.listing.proofs.Loops.{scan-passes}
 use Rattle.survey.specs.Soundness.{at, depth, branch}
 use Rattle.survey.proofs.Turns.{ref-empty}
 use Rattle.writing.proofs.Wholes.{size-same}
@@ -123,13 +124,13 @@ module _ (pool : List ℕ) (n : ℕ) where
     way-depth (past W a) = omega (arith, a .high)
 
     -- past as many nodes there is one way only
-    pub one-way : {i w m i′ w′ m′ : ℕ} → Way pool n key i w m → Way pool n key i′ w′ m′ → m ≡ m′ → i ≡ i′
-    one-way root root e = refl
+    pub one-way : {i w m i′ w′ m′ : ℕ} → Way pool n key i w m → Way pool n key i′ w′ m′ → m ≡ m′ → (i ≡ i′) × (w ≡ w′)
+    one-way root root e = (refl, refl)
     one-way root (past W′ a′) e = absurd (omega arith)
     one-way (past W a) root e = absurd (omega arith)
     one-way (past {j = j} W a) (past {j = j′} W′ a′) e =
-        let q : j ≡ j′ = same-node (one-way W W′ (omega arith)) (a .node) (a′ .node) in
-        ap (chosen pool n key) q
+        let q : j ≡ j′ = same-node (one-way W W′ (omega arith) .0) (a .node) (a′ .node) in
+        (ap (chosen pool n key) q, ap (λ (x : ℕ). branch pool n x + 1) q)
 
     -- every node before a reference that is met at walk depth w branches below w, so the first node with b >= f is the one with w <= f <= b
     pub earlier-below : {i w m j i′ w′ m′ : ℕ} → Way pool n key i w m → Accepted pool n i w j → Way pool n key i′ w′ m′ → m < m′ → branch pool n j < w′
@@ -137,35 +138,57 @@ module _ (pool : List ℕ) (n : ℕ) where
     earlier-below {m = m} {j = j} W a (past {m = m′} {j = j′} W′ a′) h =
         elim (decLt m m′) [
           | yes l ↦ omega (arith, earlier-below W a W′ l, a′ .deep)
-          | no g ↦ omega (arith, ap (branch pool n) (same-node (one-way W W′ (omega arith)) (a .node) (a′ .node)))
+          | no g ↦ omega (arith, ap (branch pool n) (same-node (one-way W W′ (omega arith) .0) (a .node) (a′ .node)))
         ]
 
-    module _ (stop : ℕ) where
-      -- a walk comes along every way that lies before `stop`
-      comes : {i w m : ℕ} (W : Way pool n key i w m) → w ≤ stop → walkTo pool n key stop ≡ walkFrom 17 pool n key stop (spot W)
-      comes root h = refl
-      comes (past {i} {w} {m} {j} W a) h =
+    module _ (test : Test) where
+      -- no node before the end of a way stops a walk with this test
+      abbrev pub Passes : {i w m : ℕ} → Way pool n key i w m → Type 0
+      Passes root = Unit {0}
+      Passes (past {j = j} W a) = Passes W × (test key (headerAt pool n j) (branch pool n j) ≡ false)
+
+      -- so the walk comes along it
+      comes : {i w m : ℕ} (W : Way pool n key i w m) → Passes W → walkFrom 17 pool n key test walk.root ≡ walkFrom 17 pool n key test (spot W)
+      comes root p = refl
+      comes (past {i} {w} {m} {j} W a) p =
           let s = spot-is W in
           let A : walk-end.Accepted pool n (spot W .depth) (wordAt pool (spot W .at)) j (branch pool n j) = rw (s .0, s .1) (accepted a) in
-          comes W (omega (arith, a .deep)) ∙ sym (walk-on pool n key stop (spot W) j (branch pool n j) A (omega arith))
+          comes W (p .0) ∙ sym (walk-on pool n key test (spot W) j (branch pool n j) A (p .1))
+
+      module _ {i w m : ℕ} (W : Way pool n key i w m) (p : Passes W) where
+        -- and ends, or stops, where the way does
+        pub passes-ends : (x : Ref) → at pool n i ≡ x → NoNode x → walkFrom 17 pool n key test walk.root ≡ endOf (spot W) x
+        passes-ends x e g =
+            let s = spot-is W in
+            comes W p ∙ walk-ends pool n key test 16 (spot W) x (rw (s .0) e) g
+
+        pub passes-breaks : Broken pool n i w → walkFrom 17 pool n key test walk.root ≡ Damaged m
+        passes-breaks b =
+            let s = spot-is W in
+            broken-case b (λ e. passes-ends Bad e tt ∙ ap Damaged (s .2))
+            (λ j r. comes W p ∙ walk-damaged pool n key test 16 (spot W) j (rw (s .0, s .1) r) ∙ ap Damaged (s .2))
+
+        pub passes-stops : {j : ℕ} → Accepted pool n i w j → test key (headerAt pool n j) (branch pool n j) ≡ true
+            → walkFrom 17 pool n key test walk.root ≡ Stopped (spot W) j (branch pool n j)
+        passes-stops {j} a l =
+            let s = spot-is W in
+            comes W p ∙ walk-stops pool n key test 16 (spot W) j (branch pool n j) (rw (s .0, s .1) (accepted a)) l
+
+    module _ (stop : ℕ) where
+      -- of a walk that stops at `stop` or past it: every way that lies before
+      passes-before : {i w m : ℕ} (W : Way pool n key i w m) → w ≤ stop → Passes (walk.past stop) W
+      passes-before root h = tt
+      passes-before (past {j = j} W a) h = (passes-before W (omega (arith, a .deep)), lt-leb stop (branch pool n j) (omega arith))
 
       module _ {i w m : ℕ} (W : Way pool n key i w m) (h : w ≤ stop) where
-        -- and ends, or stops, where the way does
         pub ends : (x : Ref) → at pool n i ≡ x → NoNode x → walkTo pool n key stop ≡ endOf (spot W) x
-        ends x e g =
-            let s = spot-is W in
-            comes W h ∙ walk-ends pool n key stop 16 (spot W) x (rw (s .0) e) g
+        ends = passes-ends (walk.past stop) W (passes-before W h)
 
         pub breaks : Broken pool n i w → walkTo pool n key stop ≡ Damaged m
-        breaks b =
-            let s = spot-is W in
-            broken-case b (λ e. ends Bad e tt ∙ ap Damaged (s .2))
-            (λ j r. comes W h ∙ walk-damaged pool n key stop 16 (spot W) j (rw (s .0, s .1) r) ∙ ap Damaged (s .2))
+        breaks = passes-breaks (walk.past stop) W (passes-before W h)
 
         pub stops : {j : ℕ} → Accepted pool n i w j → stop ≤ branch pool n j → walkTo pool n key stop ≡ Stopped (spot W) j (branch pool n j)
-        stops {j} a l =
-            let s = spot-is W in
-            comes W h ∙ walk-stops pool n key stop 16 (spot W) j (branch pool n j) (rw (s .0, s .1) (accepted a)) l
+        stops {j} a l = passes-stops (walk.past stop) W (passes-before W h) a (le-leb stop (branch pool n j) l)
 
     -- the plain walk
     module _ {i w m : ℕ} (W : Way pool n key i w m) where

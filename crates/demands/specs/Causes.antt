@@ -14,14 +14,14 @@ use Rattle.plan.specs.declared.Plan.{Plan}
 use Rattle.plan.specs.declared.Effect.{Effect}
 use Rattle.plan.specs.declared.Effect.the-variants.{Nothing, TakesLeaf, TakesBoth, FreesLeaf, FreesBoth}
 use Rattle.finishing.specs.Finishes.{finishOf}
-use Rattle.finding.specs.Lookups.{answer, lookupOf}
+use Rattle.finding.specs.Lookups.{answer, lookupOf, quickOf}
 use Rattle.listing.specs.Listings.{listed, listOf}
 use Rattle.rules.specs.Puts.{putPlan}
 use Rattle.rules.specs.Deletes.{deletePlan}
 use Rattle.writing.specs.Calls.{putOf, deleteOf, formatOf}
 use Rattle.survey.specs.Soundness.{Sound}
 use Rattle.opening.specs.Openings.{openPlan, openOf}
-use Rattle.demands.specs.Ways.{Lookup, Delete, Put, Listing}
+use Rattle.demands.specs.Ways.{Lookup, Quick, Delete, Put, Listing}
 
 -- the answer x is a exactly when a cause of a is there
 abbrev pub Exactly : {A : Type 0} → A → (A → Type 0) → Type 0
@@ -59,6 +59,7 @@ pub data Retires (v : ℕ) (Cause : ℕ → Type 0) : ℕ → Type 0 where
 
 pub record Causes : Type 0 where
   pub lookup : (pool : List ℕ) (k : ℕ) → Exactly (lookupOf pool k) (After (answer 1 0 0) (Fits pool) (λ n. Lookup pool n k))
+  pub quick : (pool : List ℕ) (k : ℕ) → Exactly (quickOf pool k) (After (answer 1 0 0) (Fits pool) (λ n. Quick pool n k))
   pub list : (pool : List ℕ) (from : ℕ) (ks vs : List ℕ)
       → Exactly (listOf pool from ks vs .answer) (After (listed 1 0 false) (Fits pool) (λ n. Listing pool n from (length ks) (length vs)))
   pub plan-put : (pool bytes : List ℕ) (k v : ℕ) → Exactly (putPlan pool bytes k v .number) (After 1 (FitsMap pool bytes) (λ n. Retires v (Put pool n bytes k)))

@@ -10,6 +10,7 @@ use Rattle.demands.specs.Question.{ListedIffOpenable}
 use Rattle.demands.specs.ByPlan.{ByPlan}
 use Rattle.demands.specs.FromC.{Returns}
 use Rattle.demands.specs.Opening.{Opens}
+use Rattle.demands.specs.Quick.{AsLookup}
 use Rattle.demands.specs.Unique.{Unique}
 use Rattle.demands.specs.Cases.{every, cases}
 use Rattle.demands.specs.StoreLists.{storeLists}
@@ -31,6 +32,7 @@ pub record Claims : Type 0 where
   pub by-plan : ByPlan
   pub from-c : Returns
   pub opening : Opens
+  pub quick : AsLookup
   pub one-outcome : Unique
   pub examples : every cases ≡ true
   pub store-lists : every storeLists ≡ true

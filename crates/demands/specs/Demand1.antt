@@ -14,7 +14,7 @@ use Rattle.finishing.specs.Finishes.{FinishGives}
 use Rattle.plan.specs.declared.Plan.{Plan}
 use Rattle.plan.specs.declared.Planned.{Planned}
 use Rattle.plan.specs.declared.Effect.the-variants.{Nothing}
-use Rattle.finding.specs.Lookups.{Answer, LookupGives}
+use Rattle.finding.specs.Lookups.{Answer, LookupGives, QuickGives}
 use Rattle.listing.specs.Listings.{Shown, ListGives}
 use Rattle.rules.specs.Puts.{PlanPutGives}
 use Rattle.rules.specs.Deletes.{PlanDeleteGives}
@@ -27,7 +27,7 @@ unfoldable pub OneOf : List ℕ → ℕ → Type 0
 OneOf [] k = ⊥
 OneOf (a ∷ l) k = (k ≡ a) ⊎ OneOf l k
 
--- lookup: "Refusals give 0 in every number field but lookup's node count", which is at most 16
+-- lookup, plain and quick: "Refusals give 0 in every number field but lookup's node count", which is at most 16
 pub record LookupSays (a : Answer) : Type 0 where
   pub number : OneOf (0 ∷ 1 ∷ 2 ∷ 3 ∷ []) (a .number)
   pub refusal : (a .number ≡ 0 → ⊥) → a .value ≡ 0
@@ -75,6 +75,7 @@ pub record Stays (memory : List ℕ) (a : After) : Type 0 where
 
 pub record Demand1 : Type 0 where
   pub lookup : (pool : List ℕ) (k : ℕ) (a : Answer) → LookupGives pool k a → LookupSays a
+  pub quick : (pool : List ℕ) (k : ℕ) (a : Answer) → QuickGives pool k a → LookupSays a
   pub list : (pool : List ℕ) (from : ℕ) (ks vs : List ℕ) (s : Shown) → ListGives pool from ks vs s → ListSays ks vs s
   pub plan-put : (pool map : List ℕ) (k v : ℕ) (p : Planned) → PlanPutGives pool map k v p → Plans (0 ∷ 1 ∷ 2 ∷ 4 ∷ 7 ∷ []) pool p
   pub plan-delete : (pool : List ℕ) (k : ℕ) (p : Planned) → PlanDeleteGives pool k p → Plans (0 ∷ 1 ∷ 2 ∷ 3 ∷ []) pool p

@@ -8,6 +8,7 @@ pub mod FromC
 pub mod Demand3
 pub mod Question
 pub mod Opening
+pub mod Quick
 pub mod Unique
 pub mod Cases
 pub mod StoreLists

@@ -1,13 +1,13 @@
 -- The auditor's question: "Is every name in the listing still openable, and is every openable name in the listing?"
 -- Assumes nothing.
 use mathlib.Core.Path.{_≡_}
-use mathlib.Core.Logic.{_↔_}
+use mathlib.Core.Logic.{_↔_, _⊎_}
 use mathlib.Core.Option.{Option}
 use mathlib.Core.List.{List}
 use Prim.Native.Nat.{ℕ, _≤_, _<_}
 use lib.ListN.{length}
 use Rattle.pool.specs.Places.{wordAt}
-use Rattle.finding.specs.Lookups.{Answer, LookupGives}
+use Rattle.finding.specs.Lookups.{Answer, LookupGives, QuickGives}
 use Rattle.listing.specs.Listings.{Shown, ListGives}
 use Rattle.demands.specs.Tables.{Table}
 use Rattle.demands.specs.Demand3.{Cut, Any, Reach}
@@ -19,8 +19,9 @@ InListing s k v = (i : ℕ) × (i < s .answer .count) × (wordAt (s .keys) i ≡
 abbrev pub Openable : Answer → ℕ → Type 0
 Openable a v = (a .number ≡ 0) × (a .value ≡ v)
 
--- in every state that is reached, with buffers that hold the whole pool: a name is listed if and only if lookup opens it, with the same file number
+-- in every state that is reached, with buffers that hold the whole pool: a name is listed if and only if lookup, plain or quick, opens it, with the
+-- same file number
 abbrev pub ListedIffOpenable : Cut → Type 0
 ListedIffOpenable C =
     (n : ℕ) (pool : List ℕ) (map : Option (List ℕ)) (T : Table) → Reach Any C n pool map T → (ks vs : List ℕ) → n ≤ length ks → length ks ≡ length vs
-    → (s : Shown) → ListGives pool 0 ks vs s → (k v : ℕ) (a : Answer) → LookupGives pool k a → InListing s k v ↔ Openable a v
+    → (s : Shown) → ListGives pool 0 ks vs s → (k v : ℕ) (a : Answer) → LookupGives pool k a ⊎ QuickGives pool k a → InListing s k v ↔ Openable a v

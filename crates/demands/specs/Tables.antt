@@ -10,7 +10,7 @@ use Rattle.digits.specs.Choice.{pick}
 use Rattle.tree.specs.Listing.{Entry, Rising, look}
 use Rattle.pool.specs.Sizes.{bytesOf}
 use Rattle.pool.specs.Places.{wordAt}
-use Rattle.finding.specs.Lookups.{lookupOf, Finds}
+use Rattle.finding.specs.Lookups.{lookupOf, quickOf, Finds}
 use Rattle.listing.specs.Listings.{listOf}
 use Rattle.listing.specs.Rows.{upFrom, shownRows, Word}
 use Rattle.survey.specs.Soundness.{InUse}
@@ -38,9 +38,10 @@ pub record Rows (T : Table) (rows : List (Entry ℕ)) : Type 0 where
 abbrev pub Names : Table → Type 0
 Names T = (k v : ℕ) → T k ≡ some v → Word k
 
--- lookup and listing answer as the table, for every name, every start and every two buffers of one length that is not 0
+-- lookup, by the plain way and by the quick one, and listing answer as the table, for every name, every start and every two buffers of one length that is not 0
 pub record Reads (pool : List ℕ) (T : Table) : Type 0 where
   pub lookup : (k : ℕ) → Finds (T k) (lookupOf pool k)
+  pub quick : (k : ℕ) → Finds (T k) (quickOf pool k)
   pub rows : List (Entry ℕ)
   pub written : Rows T rows
   pub listing : (from : ℕ) (ks vs : List ℕ) → (length ks ≡ 0 → ⊥) → length ks ≡ length vs

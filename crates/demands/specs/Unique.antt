@@ -7,7 +7,7 @@ use Prim.Native.Nat.{ℕ}
 use Rattle.plan.specs.Plans.{plannedOf, stepOf, StepGives, runOf, RunGives}
 use Rattle.finishing.specs.Finishes.{finishOf, FinishGives}
 use Rattle.plan.specs.declared.Plan.{Plan}
-use Rattle.finding.specs.Lookups.{told, lookupOf, LookupGives}
+use Rattle.finding.specs.Lookups.{told, lookupOf, LookupGives, quickOf, QuickGives}
 use Rattle.listing.specs.Listings.{numbers, listOf, ListGives}
 use Rattle.finding.specs.declared.Found.{Found}
 use Rattle.listing.specs.declared.Listed.{Listed}
@@ -25,6 +25,7 @@ module _ {A : Type 0} where
 
 pub record Unique : Type 0 where
   pub lookup : (pool : List ℕ) (k : ℕ) → OneOutcome (LookupGives pool k) (lookupOf pool k)
+  pub quick : (pool : List ℕ) (k : ℕ) → OneOutcome (QuickGives pool k) (quickOf pool k)
   pub list : (pool : List ℕ) (from : ℕ) (ks vs : List ℕ) → OneOutcome (ListGives pool from ks vs) (listOf pool from ks vs)
   pub plan-put : (pool map : List ℕ) (k v : ℕ) → OneOutcome (PlanPutGives pool map k v) (plannedOf (putPlan pool map k v))
   pub plan-delete : (pool : List ℕ) (k : ℕ) → OneOutcome (PlanDeleteGives pool k) (plannedOf (deletePlan pool k))
@@ -36,7 +37,7 @@ pub record Unique : Type 0 where
   pub delete : (pool map : List ℕ) (k : ℕ) → OneOutcome (DeleteGives pool map k) (deleteOf pool map k)
   pub format : (pool map : List ℕ) (n : ℕ) → OneOutcome (FormatGives pool map n) (formatOf pool map n)
   pub opening : (pool map : List ℕ) → OneOutcome (OpenGives pool map) (openOf pool map)
-  -- the numbers of an answer are of one case: what lookup finds, and whether a listing found a further entry
+  -- the numbers of an answer are of one case: what a lookup finds, and whether a listing found a further entry
   pub found : (f g : Found) → told f ≡ told g → f ≡ g
   pub further : (a b : Listed) → numbers a ≡ numbers b → a ≡ b
   -- the plans handed out to C as words, and a finish by such words

@@ -10,7 +10,7 @@ use Prim.Native.Nat.{ℕ, zero, suc, _+_, _≤_, _<_}
 use lib.Dec.{leb}
 use lib.ListN.{length}
 use Rattle.digits.specs.Choice.{pick}
-use Rattle.digits.specs.Digits.{digitOf, firstDiff}
+use Rattle.digits.specs.Digits.{digitIn, digitOf, firstDiff}
 use Rattle.digits.specs.Headers.{lengthOf}
 use Rattle.pool.specs.Sizes.{bytesOf}
 use Rattle.pool.specs.Places.{wordAt, keyAt, valueAt, headerAt, childAt, childWord}
@@ -90,6 +90,23 @@ module _ (pool : List ℕ) (n : ℕ) where
     empty : {i w m : ℕ} → Way key i w m → at pool n i ≡ Empty → Lookup key (answer 3 0 m)
     other : {i w m l : ℕ} → Way key i w m → at pool n i ≡ Leaf l → keyAt pool l ≢ key → Lookup key (answer 3 0 m)
     found : {i w m l : ℕ} → Way key i w m → at pool n i ≡ Leaf l → keyAt pool l ≡ key → Lookup key (answer 0 (valueAt pool l) m)
+
+  -- ---- the quick lookup
+  -- Place c of node j's header is in use, and holds another digit than the key has at the header's depth + c. "47..0 the first twelve digits of
+  -- the prefix, first digit highest"
+  pub record Unlike (key j c : ℕ) : Type 0 where
+    pub stored : c < 12
+    pub used : c < lengthOf (headerAt pool n j)
+    pub digit : digitIn 12 (headerAt pool n j) c ≢ digitOf key (depth pool n j + c)
+
+  -- such a place has the node to which the walk along the key comes past m others
+  pub data Differing (key : ℕ) : ℕ → Type 0 where
+    differing : {i w m j c : ℕ} → Way key i w m → Accepted i w j → Unlike key j c → Differing key m
+
+  -- Document 02: "compares stored digits on the way and stops at the first that differs"; the node counts. Where none differs it is lookup.
+  pub data Quick (key : ℕ) : Answer → Type 0 where
+    stopped : {m : ℕ} → Differing key m → ((x : ℕ) → x < m → Differing key x → ⊥) → Quick key (answer 3 0 (m + 1))
+    passed : {a : Answer} → ((x : ℕ) → Differing key x → ⊥) → Lookup key a → Quick key a
 
   -- ---- delete
   -- "Its node P" of a found key is node j

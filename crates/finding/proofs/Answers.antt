@@ -1,30 +1,26 @@
--- What a lookup answers for every run of words there is, and that the numbers of an answer tell its case.
+-- What a lookup and a quick lookup answer for every run of words there is, and that the numbers of an answer tell its case.
 -- Assumes nothing.
 use mathlib.Core.Path.{_≡_, refl, sym, ap, _∙_}
 use mathlib.Core.List.{List}
 use Prim.Native.Nat.{ℕ, _≤_}
 use native.Mathlib.Omega.{arith}
 use lib.Dec.{eqb}
-use lib.ListN.{getD}
 use Rattle.digits.specs.Choice.{pick}
-use Rattle.pool.specs.Sizes.{capacityOf, Measured}
+use Rattle.pool.specs.Sizes.{capacityOf}
 use Rattle.pool.specs.Places.{keyAt}
+use Rattle.pool.specs.declared.Ref.the-variants.{Leaf}
 use Rattle.pool.specs.declared.Size.{Size}
 use Rattle.pool.specs.declared.Size.the-variants.{Holds, Wrong}
-use Rattle.pool.proofs.Sizes.{size-fits}
-use Rattle.walk.specs.Walks.{walkOf}
-use Rattle.walk.specs.Ends.{nodesOf}
+use Rattle.walk.specs.Walks.{root, never, unlike, walkOf, quickWalk}
+use Rattle.walk.specs.Ends.{metOf}
 use Rattle.walk.specs.declared.End.{End}
 use Rattle.walk.specs.declared.End.the-variants.{AtLeaf, AtEmpty, Stopped, Damaged}
-use Rattle.walk.proofs.Ends.{walk-nodes}
+use Rattle.walk.proofs.Counts.{walk-few, stopped-fewer}
+use Rattle.walk.proofs.Ends.{Unstopped, walk-unstopped}
 use Rattle.finding.specs.declared.Found.{Found}
 use Rattle.finding.specs.declared.Found.the-variants.{Hit, Absent, Met, WrongSize}
-use Rattle.finding.specs.Lookups.{Answer, answer, told, foundAt, foundIn, lookupOf}
+use Rattle.finding.specs.Lookups.{Answer, answer, told, foundEnd, foundAt, foundIn, lookupOf, quickAt, quickIn, quickOf}
 use Rattle.digits.proofs.Choice.{pick-case}
-
-capacity-fits : (pool : List ℕ) → Measured pool (capacityOf pool)
-unfolding capacityOf
-capacity-fits pool = size-fits pool (getD pool 0 0)
 
 -- "0 done", "3 key absent", "2 damage met", "1 size"; "Refusals give 0 in every number field but lookup's node count", which is at most 16
 pub data Looks : Answer → Type 0 where
@@ -33,19 +29,72 @@ pub data Looks : Answer → Type 0 where
   damage : {m : ℕ} → m ≤ 16 → Looks (answer 2 0 m)
   size : Looks (answer 1 0 0)
 
-pub lookup-answers : (pool : List ℕ) (key : ℕ) → Looks (lookupOf pool key)
-unfolding lookupOf
-lookup-answers pool key = go (capacityOf pool) (capacity-fits pool)
-  where
-    at-end : (e : End) → nodesOf e ≤ 16 → Looks (foundAt pool key e)
-    at-end (AtLeaf s i) h = pick-case Looks (eqb (keyAt pool i) key) (λ t. done h) (λ t. absent h)
-    at-end (AtEmpty s) h = absent h
-    at-end (Stopped s j b) h = damage h
-    at-end (Damaged m) h = damage h
+module _ (pool : List ℕ) (key : ℕ) where
+  at-end : (e : End) → metOf e ≤ 16 → Looks (foundAt pool key e)
+  at-end (AtLeaf s i) h = pick-case Looks (eqb (keyAt pool i) key) (λ t. done h) (λ t. absent h)
+  at-end (AtEmpty s) h = absent h
+  at-end (Stopped s j b) h = damage {m = s .nodes} (omega arith)
+  at-end (Damaged m) h = damage h
 
-    go : (r : Size) → Measured pool r → Looks (foundIn pool key r)
-    go (Holds n) z = at-end (walkOf pool n key) (walk-nodes z key 16 refl)
-    go Wrong z = size
+  at-quick-end : (e : End) → metOf e ≤ 16 → Looks (quickAt pool key e)
+  at-quick-end (AtLeaf s i) h = at-end (AtLeaf s i) h
+  at-quick-end (AtEmpty s) h = at-end (AtEmpty s) h
+  at-quick-end (Stopped s j b) h = absent h
+  at-quick-end (Damaged m) h = at-end (Damaged m) h
+
+  -- a walk that is not stopped is answered as lookup answers it
+  pub quick-unstopped : (e : End) → Unstopped e → quickAt pool key e ≡ foundAt pool key e
+  quick-unstopped (AtLeaf s i) u = refl
+  quick-unstopped (AtEmpty s) u = refl
+  quick-unstopped (Stopped s j b) u = absurd u
+  quick-unstopped (Damaged m) u = refl
+
+  pub lookup-answers : Looks (lookupOf pool key)
+  unfolding lookupOf
+  lookup-answers = go (capacityOf pool)
+    where
+      go : (r : Size) → Looks (foundIn pool key r)
+      go (Holds n) = at-end (walkOf pool n key) (walk-few pool n key never)
+      go Wrong = size
+
+  pub quick-answers : Looks (quickOf pool key)
+  unfolding quickOf
+  quick-answers = go (capacityOf pool)
+    where
+      go : (r : Size) → Looks (quickIn pool key r)
+      go (Holds n) = at-quick-end (quickWalk pool n key) (walk-few pool n key unlike)
+      go Wrong = size
+
+  -- ---- how many nodes are counted
+  counted : (i m : ℕ) → foundEnd pool key m (Leaf i) .nodes ≡ m
+  counted i m = pick-case (λ (a : Answer). a .nodes ≡ m) (eqb (keyAt pool i) key) (λ t. refl) (λ t. refl)
+
+  found-counts : (e : End) → Unstopped e → foundAt pool key e .nodes ≡ metOf e
+  found-counts (AtLeaf s i) u = counted i (s .nodes)
+  found-counts (AtEmpty s) u = refl
+  found-counts (Stopped s j b) u = absurd u
+  found-counts (Damaged m) u = refl
+
+  quick-counts : (e : End) → quickAt pool key e .nodes ≡ metOf e
+  quick-counts (AtLeaf s i) = counted i (s .nodes)
+  quick-counts (AtEmpty s) = refl
+  quick-counts (Stopped s j b) = refl
+  quick-counts (Damaged m) = refl
+
+  -- on every pool there is the quick lookup counts no more nodes than lookup
+  pub quick-fewer : quickOf pool key .nodes ≤ lookupOf pool key .nodes
+  unfolding lookupOf quickOf
+  quick-fewer = go (capacityOf pool)
+    where
+      go : (r : Size) → quickIn pool key r .nodes ≤ foundIn pool key r .nodes
+      go (Holds n) =
+          omega (
+            arith,
+            quick-counts (quickWalk pool n key),
+            found-counts (walkOf pool n key) (walk-unstopped pool n key),
+            stopped-fewer pool n key unlike 17 root,
+          )
+      go Wrong = omega arith
 
 few : {a : Answer} → Looks a → a .nodes ≤ 16
 few (done h) = h

@@ -1,4 +1,4 @@
--- On a pool that holds a tree, a lookup answers what the tree has for the key, and counts the nodes on the key's way.
+-- On a pool that holds a tree, a lookup answers what the tree has for the key, and counts the nodes on the key's way; a quick lookup answers the same.
 -- Assumes nothing.
 use mathlib.Core.Path.{_≡_, refl, sym, ap, _∙_}
 use mathlib.Core.Option.{Option, none, some}
@@ -19,13 +19,17 @@ use Rattle.tree.proofs.Basics.{Same?, same, other, same?}
 use Rattle.layout.specs.Layout.{Held, base, refAt}
 use Rattle.layout.proofs.Base.{SeesLeaf}
 use Rattle.layout.proofs.Held.{sub-holds}
-use Rattle.walk.specs.Walks.{root}
+use Rattle.walk.specs.Walks.{root, unlike, walkOf, quickWalk}
 use Rattle.walk.specs.declared.Spot.{Spot}
+use Rattle.walk.specs.declared.End.{End}
+use Rattle.walk.specs.declared.End.the-variants.{AtLeaf, AtEmpty, Stopped, Damaged}
+use Rattle.walk.proofs.Ends.{walk-whole}
 use Rattle.held.specs.Ways.{dig, mem, spotAt, endAt}
 use Rattle.held.proofs.Heads.{held-leaf}
 use Rattle.held.proofs.Walks.{walk-held}
+use Rattle.held.proofs.Quick.{stopped-absent}
 use Rattle.held.proofs.Spots.{spot-nodes, way-on, way-finds, way-ends, NoNode}
-use Rattle.finding.specs.Lookups.{Answer, answer, foundAt, lookupOf, Finds}
+use Rattle.finding.specs.Lookups.{Answer, answer, foundAt, lookupOf, quickAt, quickOf, Finds}
 
 -- ---- what it answers
 -- the value that a key has, or that it has none, in a lookup's numbers, with m nodes passed
@@ -68,3 +72,22 @@ module _ (pool : List ℕ) (n : ℕ) (t : Tree ℕ) (fits : capacityOf pool ≡ 
   -- a key that is held answers 0 and its value; one that is not, 3 and 0
   pub lookup-held : Finds (find dig k t) (lookupOf pool k)
   lookup-held = rw lookup-answers (answered-finds (find dig k t) (length (way dig 16 k t)))
+
+  -- the quick lookup too: where it is not stopped it is lookup, and where it is the key is not held
+  pub quick-held : Finds (find dig k t) (quickOf pool k)
+  unfolding lookupOf quickOf
+  quick-held = rw fits (go (quickWalk pool n k) refl)
+    where
+      as-lookup : (e : End) → e ≡ walkOf pool n k → Finds (find dig k t) (foundAt pool k e)
+      as-lookup e w = rw w (rw fits at lookup-held)
+
+      go : (e : End) → quickWalk pool n k ≡ e → Finds (find dig k t) (quickAt pool k e)
+      go (AtLeaf s i) q = as-lookup (AtLeaf s i) (walk-whole pool n k unlike (sym q) tt)
+      go (AtEmpty s) q = as-lookup (AtEmpty s) (walk-whole pool n k unlike (sym q) tt)
+      go (Stopped s j b) q = rw (stopped-absent pool n k 17 root (λ i. 0) t (H .holds) (H .good) (λ u. rw q at u)) (refl, refl)
+      go (Damaged m) q = as-lookup (Damaged m) (walk-whole pool n k unlike (sym q) tt)
+
+-- one row of a table has one number and one value
+pub finds-same : (o : Option ℕ) (a b : Answer) → Finds o a → Finds o b → (a .number ≡ b .number) × (a .value ≡ b .value)
+finds-same (some v) a b p q = (p .0 ∙ sym (q .0), p .1 ∙ sym (q .1))
+finds-same none a b p q = (p .0 ∙ sym (q .0), p .1 ∙ sym (q .1))

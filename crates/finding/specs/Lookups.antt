@@ -1,9 +1,9 @@
--- Lookup: what a key answers, in any run of words.
+-- Lookup, and the quick lookup: what a key answers, in any run of words.
 -- Assumes nothing.
 use mathlib.Core.Path.{_≡_}
 use mathlib.Core.Option.{Option, none, some}
 use mathlib.Core.List.{List}
-use Prim.Native.Nat.{ℕ}
+use Prim.Native.Nat.{ℕ, _+_}
 use lib.Dec.{eqb}
 use Rattle.digits.specs.Choice.{pick}
 use Rattle.pool.specs.Sizes.{capacityOf}
@@ -12,7 +12,7 @@ use Rattle.pool.specs.declared.Size.{Size}
 use Rattle.pool.specs.declared.Size.the-variants.{Holds, Wrong}
 use Rattle.pool.specs.declared.Ref.{Ref}
 use Rattle.pool.specs.declared.Ref.the-variants.{Empty, Leaf, Node, Bad}
-use Rattle.walk.specs.Walks.{walkOf}
+use Rattle.walk.specs.Walks.{walkOf, quickWalk}
 use Rattle.walk.specs.declared.End.{End}
 use Rattle.walk.specs.declared.End.the-variants.{AtLeaf, AtEmpty, Stopped, Damaged}
 use Rattle.finding.specs.declared.Found.{Found}
@@ -59,6 +59,25 @@ lookupOf pool key = foundIn pool key (capacityOf pool)
 -- what lookup promises
 abbrev pub LookupGives : List ℕ → ℕ → Answer → Type 0
 LookupGives pool key a = a ≡ lookupOf pool key
+
+-- Document 02: "Add a lookup that compares stored digits on the way and stops at the first that differs." It answers as lookup does, but a walk that was
+-- stopped so is a miss, and the node that stopped it is one whose header was accepted.
+abbrev pub quickAt : List ℕ → ℕ → End → Answer
+quickAt pool key (AtLeaf s i) = foundAt pool key (AtLeaf s i)
+quickAt pool key (AtEmpty s) = foundAt pool key (AtEmpty s)
+quickAt pool key (Stopped s j b) = answer 3 0 (s .nodes + 1)
+quickAt pool key (Damaged m) = foundAt pool key (Damaged m)
+
+abbrev pub quickIn : List ℕ → ℕ → Size → Answer
+quickIn pool key (Holds n) = quickAt pool key (quickWalk pool n key)
+quickIn pool key Wrong = answer 1 0 0
+
+unfoldable pub quickOf : List ℕ → ℕ → Answer
+quickOf pool key = quickIn pool key (capacityOf pool)
+
+-- what the quick lookup promises
+abbrev pub QuickGives : List ℕ → ℕ → Answer → Type 0
+QuickGives pool key a = a ≡ quickOf pool key
 
 -- a lookup answers as a plain table: 0 and the file number of a name that is held, 3 and 0 for one that is not
 abbrev pub Finds : Option ℕ → Answer → Type 0

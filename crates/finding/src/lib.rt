@@ -1,8 +1,9 @@
-// Lookup.
+// Lookup, and the quick lookup.
 ghost use mathlib.Core.Path.{_≡_};
 ghost use Rattle.pool.specs.Sizes.{Sized};
 ghost use Rattle.pool.specs.Refs.{Within};
-ghost use Rattle.finding.specs.Lookups.{told, foundEnd, LookupGives};
+ghost use Rattle.finding.specs.Lookups.{told, foundEnd, LookupGives, QuickGives};
+use digits::Header;
 use pool::Ref;
 use pool::Size;
 use walk::Head;
@@ -59,4 +60,35 @@ pub fn lookup(pool: &[u64], key: u64) -> Found
     }
     let end = pool::reference(n, x);
     found_end(pool, n, key, nodes, end)
+}
+
+// The same, but stored digits are compared on the way: the first that differs is a miss.
+pub fn lookup_quick(pool: &[u64], key: u64) -> Found
+    ensures { λ r. ⌜ QuickGives (now (pool .entry)) key (told r) ⌝ }
+{
+    let Size::Holds(n) = pool::capacity(pool) else {
+        return Found::WrongSize;
+    };
+    let mut x = pool[1];
+    let mut w: usize = 0;
+    let mut met: usize = 0;
+    while pool::MOST < x {
+        let r = pool::reference(n, x);
+        let Ref::Node(j) = r else {
+            return found_end(pool, n, key, met, r);
+        };
+        let at = pool::node_word(n, j);
+        let word = pool[at];
+        let Head::Branch(b) = walk::accept(w, word) else {
+            return Found::Met(met);
+        };
+        met += 1;
+        if Header::differs(word, key) {
+            return Found::Absent(met);
+        }
+        x = pool[at + 1 + digits::digit(key, b)];
+        w = b + 1;
+    }
+    let end = pool::reference(n, x);
+    found_end(pool, n, key, met, end)
 }

@@ -1,12 +1,11 @@
--- Laws of loops over places: turns that do nothing may be left out, a scan passes over just the places that fail its test, and a count is 0 just
--- where no place passes. Assumes nothing.
+-- Laws of loops over places: turns that do nothing may be left out, and a scan passes over just the places that fail its test. Assumes nothing.
 use mathlib.Core.Path.{_≡_, refl, sym, ap, _∙_}
 use mathlib.Core.Bool.{Bool, true, false}
 use Prim.Native.Nat.{ℕ, zero, suc, _+_, _≤_, _<_}
 use native.Mathlib.Decide.{decLe, decLt}
 use native.Mathlib.Numerals.{add-one}
 use native.Mathlib.Omega.{arith}
-use Rattle.digits.specs.Loops.{upto, scan, tally}
+use Rattle.digits.specs.Loops.{upto, scan}
 use Rattle.walk.proofs.Loops.{scan-here}
 
 module _ {A : Type 0} (f : ℕ → A → A) (a : A) where
@@ -70,17 +69,3 @@ module _ (test : ℕ → Bool) where
             | yes g ↦ ih (omega arith) (rw (e, scan) at l)
             | no g ↦ let q : k ≡ i = omega arith in rw q e
           ]
-
-  pub tally-none : (n : ℕ) → ((k : ℕ) → k < n → test k ≡ false) → tally n test ≡ 0
-  unfolding tally
-  tally-none zero h = refl
-  tally-none (suc n) h = rw (h n (omega arith)) (omega (arith, tally-none n (λ k l. h k (omega arith))))
-
-  pub tally-some : (n k : ℕ) → k < n → test k ≡ true → tally n test ≡ 0 → ⊥
-  unfolding tally
-  tally-some zero k h e z = omega arith
-  tally-some (suc n) k h e z =
-      elim (decLt k n) [
-        | yes l ↦ tally-some n k l e (omega arith)
-        | no g ↦ let q : k ≡ n = omega arith in omega (arith, rw (← q, e) at z)
-      ]

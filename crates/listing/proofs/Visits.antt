@@ -20,7 +20,8 @@ use Rattle.walk.proofs.Heads.{NoNode, low-no-node, between}
 use Rattle.walk.proofs.Loops.{scan-true}
 use Rattle.listing.specs.Listings.{Visit, spoilt, leafOf, kidsOf, nodeOf, refVisit, visitFrom}
 use Rattle.digits.proofs.Choice.{pick-case}
-use Rattle.listing.proofs.Loops.{upto-next, upto-idle, upto-same, upto-keeps, scan-ge, scan-passes, tally-none, tally-some}
+use Rattle.digits.proofs.Loops.{tally-none, tally-some}
+use Rattle.listing.proofs.Loops.{upto-next, upto-idle, upto-same, upto-keeps, scan-ge, scan-passes}
 
 -- a higher one that refers to no node is damage
 high-bad : (n r : ℕ) → 1024 < r → NoNode (refOf n r) → refOf n r ≡ Bad

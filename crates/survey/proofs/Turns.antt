@@ -5,7 +5,7 @@ use mathlib.Core.Bool.{Bool, true, false, not}
 use mathlib.Core.List.{List}
 use Prim.Native.Nat.{ℕ, _+_, _-_, _≤_, _<_}
 use native.Mathlib.Omega.{arith}
-use borrow.Author.Tests.{eq-eqb, ne-eqb, lt-ltb, le-ltb, eqb-true, ltb-false, not-true, not-false}
+use borrow.Author.Tests.{eq-eqb, ne-eqb, lt-ltb, le-ltb, eqb-true, not-true, not-false}
 use lib.Dec.{eqb, leb, ltb}
 use lib.ListN.{length, getD, set, replicate}
 use Rattle.digits.specs.Choice.{pick}
@@ -23,7 +23,7 @@ use Rattle.walk.specs.declared.Head.the-variants.{Branch, Wrong}
 use Rattle.walk.proofs.Nodes.{counted, uncounted}
 use Rattle.survey.specs.declared.Census.{Census}
 use Rattle.survey.specs.declared.Gather.{Gather}
-use Rattle.survey.specs.Surveys.{Survey, survey, census, leafMet, gather, joinOf, Gathered, gathered, kidOf, Accepted, headJudged, nodeMet, surveyFrom, surveyOf, Alike, Gives, Found}
+use Rattle.survey.specs.Surveys.{Survey, survey, census, leafMet, gather, joinOf, Gathered, gathered, kidOf, headJudged, nodeMet, surveyFrom, surveyOf, Alike, Gives, Found}
 use Rattle.survey.proofs.Loops.{pick-both, upto-turn, upto-keeps}
 use Rattle.survey.proofs.Surveys.{survey-over, survey-on, node-bound-unseen}
 
@@ -208,18 +208,6 @@ header-judged word first last {h} e = rw (← e) (go (eqb h word))
     go : (t : Bool) → census last t ≡ pick t (census last true) (census last false)
     go true = refl
     go false = refl
-
--- a header that a walk accepts fits a key
-pub header-fits : (w word : ℕ) {h : Head} {b : ℕ} → h ≡ headOf w word → h ≡ Branch b → Accepted word
-unfolding headOf
-header-fits w word {h} {b} e q = go (ltb (depthOf word) w) (ltb 15 (lengthOf word)) (ltb 15 (depthOf word + lengthOf word)) refl (sym e ∙ q)
-  where
-    go : (t u v : Bool) → ltb 15 (depthOf word + lengthOf word) ≡ v
-        → pick t Wrong (pick u Wrong (pick v Wrong (Branch (depthOf word + lengthOf word)))) ≡ Branch b → Accepted word
-    go true u v f x = let o : _≡_ {A = ℕ} 0 1 = cc in absurd (omega arith)
-    go false true v f x = let o : _≡_ {A = ℕ} 0 1 = cc in absurd (omega arith)
-    go false false true f x = let o : _≡_ {A = ℕ} 0 1 = cc in absurd (omega arith)
-    go false false false f x = omega (arith, ltb-false 15 (depthOf word + lengthOf word) f)
 
 -- ---- a node, by what `header` and `accept` told
 module _ (pool : List ℕ) (n w j : ℕ) (m : List ℕ) {word : ℕ} {h : Head} (there : word ≡ headerAt pool n j) (is : h ≡ headOf w word) where

@@ -1,10 +1,11 @@
--- Where a walk ends: inside the pool, after at most 16 nodes; stopped only before a node at or past `stop`, and else where the plain walk ends.
+-- Where a walk ends: inside the pool; stopped only before a node at or past `stop`, and else, whatever was to stop it, where the plain walk ends.
 -- Assumes nothing.
 use mathlib.Core.Path.{_≡_, refl, sym, ap, _∙_}
 use mathlib.Core.Logic.{_⊎_, inl, inr, ⊎-elim}
 use mathlib.Core.List.{List}
 use Prim.Native.Nat.{ℕ, _+_, _-_, _≤_, _<_}
 use native.Mathlib.Omega.{arith}
+use borrow.Author.Tests.{leb-true, leb-false, le-leb, lt-leb}
 use Rattle.digits.specs.Digits.{digitOf}
 use Rattle.digits.proofs.Digits.{digit-lt}
 use Rattle.pool.specs.Sizes.{Sized}
@@ -15,8 +16,8 @@ use Rattle.pool.specs.declared.Ref.the-variants.{Empty, Leaf, Node, Bad}
 use Rattle.walk.specs.declared.Spot.{Spot}
 use Rattle.walk.specs.declared.End.{End}
 use Rattle.walk.specs.declared.End.the-variants.{AtLeaf, AtEmpty, Stopped, Damaged}
-use Rattle.walk.specs.Walks.{root, below, endOf, walkTo, walkOf}
-use Rattle.walk.specs.Ends.{Accepted, Inside, Ends, nodesOf}
+use Rattle.walk.specs.Walks.{root, below, endOf, Test, past, never, walkFrom, walkTo, walkOf}
+use Rattle.walk.specs.Ends.{Accepted, Inside, Ends}
 use Rattle.walk.proofs.Heads.{NoNode}
 use Rattle.walk.proofs.Walks.{Walks, ends, damaged, stops, goes, walk-has-end, walk-one-end}
 
@@ -52,51 +53,52 @@ module _ {pool : List ℕ} {n : ℕ} (z : Sized pool n) (stop : ℕ) where
   at-end (Node j) i e w h = absurd h
   at-end Bad i e w h = omega arith
 
-  walks-inside : {key : ℕ} {s : Spot} {e : End} → Walks pool n key stop s e → Inside pool n stop s → Ends pool n stop e
+  walks-inside : {key : ℕ} {s : Spot} {e : End} → Walks pool n key (past stop) s e → Inside pool n stop s → Ends pool n stop e
   walks-inside (ends r e w h q) i = rw q (at-end r i e w h)
   walks-inside (damaged j a q) i = rw q (omega arith)
-  walks-inside (stops j b a l q) i = rw q (record { inside = i; accepted = a; stop≤ = l })
-  walks-inside {key} (goes j b a l w) i = walks-inside w (below-inside i a l (digit-lt 16 key b))
+  walks-inside (stops j b a l q) i = rw q (record { inside = i; accepted = a; stop≤ = leb-true stop b l })
+  walks-inside {key} (goes j b a l w) i = walks-inside w (below-inside i a (leb-false stop b l) (digit-lt 16 key b))
 
 -- where a walk ends lies inside the pool
 pub walk-inside : {pool : List ℕ} {n : ℕ} → Sized pool n → (key stop : ℕ) {e : End} → e ≡ walkTo pool n key stop → Ends pool n stop e
-walk-inside {pool} {n} z key stop q = rw q (walks-inside z stop (walk-has-end pool n key stop 17 root (omega arith) (omega arith)) (root-inside z stop))
+walk-inside {pool} {n} z key stop q = rw q (walks-inside z stop (walk-has-end pool n key (past stop) 17 root (omega arith) (omega arith)) (root-inside z stop))
 
-few-nodes : (pool : List ℕ) (n stop : ℕ) (e : End) → Ends pool n stop e → nodesOf e ≤ 16
-few-nodes pool n stop (AtLeaf s i) h = omega arith
-few-nodes pool n stop (AtEmpty s) h = omega arith
-few-nodes pool n stop (Stopped s j b) h = omega arith
-few-nodes pool n stop (Damaged m) h = h
-
--- "how many nodes had an accepted header on its walk, at most 16"
-pub walk-nodes : {pool : List ℕ} {n : ℕ} → Sized pool n → (key stop : ℕ) {e : End} → e ≡ walkTo pool n key stop → nodesOf e ≤ 16
-walk-nodes {pool} {n} z key stop {e} q = few-nodes pool n stop e (walk-inside z key stop q)
-
--- the plain walk does not stop
-pub walk-unstopped : {pool : List ℕ} {n : ℕ} → Sized pool n → (key : ℕ) {s : Spot} {j b : ℕ} → Stopped s j b ≡ walkOf pool n key → ⊥
-walk-unstopped z key q =
-    let h = walk-inside z key 16 q in
-    omega arith
-
--- a walk that ends and is not stopped
+-- ---- a walk that ends and is not stopped
 abbrev pub Unstopped : End → Type 0
 Unstopped (AtLeaf s i) = Unit {0}
 Unstopped (AtEmpty s) = Unit {0}
 Unstopped (Stopped s j b) = ⊥
 Unstopped (Damaged m) = Unit {0}
 
-module _ {pool : List ℕ} {n key stop : ℕ} where
-  no-stop : {s : Spot} {e : End} → Walks pool n key stop s e → Unstopped e → Walks pool n key 16 s e
+end-unstopped : (s : Spot) (r : Ref) → Unstopped (endOf s r)
+end-unstopped s Empty = tt
+end-unstopped s (Leaf i) = tt
+end-unstopped s (Node j) = tt
+end-unstopped s Bad = tt
+
+module _ {pool : List ℕ} {n key : ℕ} where
+  never-stops : {s : Spot} {e : End} → Walks pool n key never s e → Unstopped e
+  never-stops {s} (ends r e w h q) = rw q (end-unstopped s r)
+  never-stops (damaged j a q) = rw q tt
+  never-stops (stops j b a l q) = absurd (omega (arith, leb-true 16 b l, a .b<))
+  never-stops (goes j b a l w) = never-stops w
+
+-- the plain walk does not stop
+pub walk-unstopped : (pool : List ℕ) (n key : ℕ) → Unstopped (walkOf pool n key)
+walk-unstopped pool n key = never-stops (walk-has-end pool n key never 17 root (omega arith) (omega arith))
+
+module _ {pool : List ℕ} {n key : ℕ} {test : Test} where
+  no-stop : {s : Spot} {e : End} → Walks pool n key test s e → Unstopped e → Walks pool n key never s e
   no-stop (ends r e w h q) u = ends r e w h q
   no-stop (damaged j a q) u = damaged j a q
   no-stop (stops j b a l q) u = absurd (rw q at u)
-  no-stop (goes j b a l w) u = goes j b a (a .b<) (no-stop w u)
+  no-stop (goes j b a l w) u = goes j b a (lt-leb 16 b (a .b<)) (no-stop w u)
 
--- and it ends where the plain walk does
-pub walk-whole : (pool : List ℕ) (n key stop : ℕ) {e : End} → e ≡ walkTo pool n key stop → Unstopped e → e ≡ walkOf pool n key
-walk-whole pool n key stop {e} q u =
-    let w : Walks pool n key stop root e = rw q (walk-has-end pool n key stop 17 root (omega arith) (omega arith)) in
-    walk-one-end pool n key 16 (no-stop w u) 17 (omega arith) (omega arith)
+-- where any other is not stopped, it ends where the plain one does
+pub walk-whole : (pool : List ℕ) (n key : ℕ) (test : Test) {e : End} → e ≡ walkFrom 17 pool n key test root → Unstopped e → e ≡ walkOf pool n key
+walk-whole pool n key test {e} q u =
+    let w : Walks pool n key test root e = rw q (walk-has-end pool n key test 17 root (omega arith) (omega arith)) in
+    walk-one-end pool n key never (no-stop w u) 17 (omega arith) (omega arith)
 
 -- ---- a walk that ended at a reference, before it came as deep as `stop`
 abbrev pub spotOf : End → Spot
@@ -118,23 +120,23 @@ arrived-at (Node j) u = absurd u
 arrived-at Bad u = absurd u
 
 module _ {pool : List ℕ} {n key : ℕ} where
-  ends-deeper : {stop : ℕ} {s : Spot} {e : End} → Walks pool n key stop s e → Arrived e → s .depth ≤ spotOf e .depth
+  ends-deeper : {test : Test} {s : Spot} {e : End} → Walks pool n key test s e → Arrived e → s .depth ≤ spotOf e .depth
   ends-deeper (ends r e w h q) u = rw (q, arrived-at r (rw q at u)) (omega arith)
   ends-deeper (damaged j a q) u = absurd (rw q at u)
   ends-deeper (stops j b a l q) u = absurd (rw q at u)
   ends-deeper (goes j b a l w) u = omega (arith, ends-deeper w u, a .w≤b)
 
-  not-stopped : {stop : ℕ} {s : Spot} {e : End} → Walks pool n key 16 s e → Arrived e → spotOf e .depth ≤ stop → Walks pool n key stop s e
+  not-stopped : {stop : ℕ} {s : Spot} {e : End} → Walks pool n key never s e → Arrived e → spotOf e .depth ≤ stop → Walks pool n key (past stop) s e
   not-stopped (ends r e w h q) u d = ends r e w h q
   not-stopped (damaged j a q) u d = damaged j a q
   not-stopped (stops j b a l q) u d = absurd (rw q at u)
-  not-stopped (goes j b a l w) u d = goes j b a (omega (arith, ends-deeper w u)) (not-stopped w u d)
+  not-stopped {stop} (goes j b a l w) u d = goes j b a (lt-leb stop b (omega (arith, ends-deeper w u))) (not-stopped w u d)
 
 -- no node that it passed branches at `stop` or past it: the walk that is to stop there ends at the same reference
 pub walk-same : (pool : List ℕ) (n key stop : ℕ) {e : End} → e ≡ walkOf pool n key → Arrived e → spotOf e .depth ≤ stop → e ≡ walkTo pool n key stop
 walk-same pool n key stop {e} q u d =
-    let w : Walks pool n key 16 root e = rw q (walk-has-end pool n key 16 17 root (omega arith) (omega arith)) in
-    walk-one-end pool n key stop (not-stopped w u d) 17 (omega arith) (omega arith)
+    let w : Walks pool n key never root e = rw q (walk-has-end pool n key never 17 root (omega arith) (omega arith)) in
+    walk-one-end pool n key (past stop) (not-stopped w u d) 17 (omega arith) (omega arith)
 
 -- ---- the last node of a walk that ended at an empty reference
 abbrev IsEmpty : End → Type 0
@@ -157,7 +159,7 @@ pub record Last (pool : List ℕ) (n key : ℕ) (s t : Spot) : Type 0 where
   pub spot : Spot
   pub node : ℕ
   pub deeper : s .depth < t .depth
-  pub stopped : Walks pool n key (t .depth - 1) s (Stopped spot node (t .depth - 1))
+  pub stopped : Walks pool n key (past (t .depth - 1)) s (Stopped spot node (t .depth - 1))
   pub nodes≡ : spot .nodes + 1 ≡ t .nodes
 
 module _ {pool : List ℕ} {n key : ℕ} {t : Spot} where
@@ -169,7 +171,7 @@ module _ {pool : List ℕ} {n key : ℕ} {t : Spot} where
         spot = s;
         node = j;
         deeper = omega (arith, a .w≤b);
-        stopped = stops j b a (omega arith) (ap (Stopped s j) f);
+        stopped = stops j b a (le-leb (t .depth - 1) b (omega arith)) (ap (Stopped s j) f);
         nodes≡ = ap (λ (u : Spot). u .nodes) e;
       }
 
@@ -180,11 +182,11 @@ module _ {pool : List ℕ} {n key : ℕ} {t : Spot} where
         spot = l .spot;
         node = l .node;
         deeper = omega (arith, l .deeper, a .w≤b);
-        stopped = goes j b a (omega (arith, l .deeper)) (l .stopped);
+        stopped = goes j b a (lt-leb (t .depth - 1) b (omega (arith, l .deeper))) (l .stopped);
         nodes≡ = l .nodes≡;
       }
 
-  last-node : {s : Spot} {e : End} → Walks pool n key 16 s e → e ≡ AtEmpty t → (s ≡ t) ⊎ Last pool n key s t
+  last-node : {s : Spot} {e : End} → Walks pool n key never s e → e ≡ AtEmpty t → (s ≡ t) ⊎ Last pool n key s t
   last-node (ends r e w h q) p = inl (empty-end r (sym q ∙ p))
   last-node (damaged j a q) p = absurd (is-empty (sym q ∙ p))
   last-node (stops j b a l q) p = absurd (is-empty (sym q ∙ p))
@@ -198,13 +200,13 @@ pub record Stops (pool : List ℕ) (n key : ℕ) (t : Spot) : Type 0 where
   pub nodes≡ : spot .nodes + 1 ≡ t .nodes
 
 pub walk-last : (pool : List ℕ) (n key : ℕ) {t : Spot} → walkOf pool n key ≡ AtEmpty t → (t .nodes ≡ 0 → ⊥) → Stops pool n key t
-walk-last pool n key {t} q h = go (last-node (walk-has-end pool n key 16 17 root (omega arith) (omega arith)) q)
+walk-last pool n key {t} q h = go (last-node (walk-has-end pool n key never 17 root (omega arith) (omega arith)) q)
   where
     go : (root ≡ t) ⊎ Last pool n key root t → Stops pool n key t
     go (inl e) = absurd (h (ap (λ (u : Spot). u .nodes) (sym e)))
     go (inr l) = record {
       spot = l .spot;
       node = l .node;
-      stopped = walk-one-end pool n key (t .depth - 1) (l .stopped) 17 (omega arith) (omega arith);
+      stopped = walk-one-end pool n key (past (t .depth - 1)) (l .stopped) 17 (omega arith) (omega arith);
       nodes≡ = l .nodes≡;
     }

@@ -5,6 +5,7 @@ use mathlib.Core.Bool.{Bool, true, false}
 use mathlib.Core.List.{List, [], _∷_}
 use mathlib.Core.Logic.{⊎-elim}
 use Prim.Native.Nat.{ℕ, _+_, _-_, _≤_, _<_}
+use native.Mathlib.Decide.{decLt}
 use native.Mathlib.Omega.{arith}
 use borrow.Author.Tests.{lt-ltb, ltb-false, le-leb}
 use types.Run.{OneOf}
@@ -46,6 +47,17 @@ too-deep w word h = rw (lt-ltb 15 (depthOf word + lengthOf word) h) (go (ltb (de
     go true u = refl
     go false true = refl
     go false false = refl
+
+-- a header that a walk accepts fits a key
+pub header-fits : (w word : ℕ) {h : Head} {b : ℕ} → h ≡ headOf w word → h ≡ Branch b → depthOf word + lengthOf word < 16
+header-fits w word {b = b} e q =
+    elim (decLt (depthOf word + lengthOf word) 16) [
+      | yes l ↦ l
+      | no g ↦
+          let z : Wrong ≡ Branch b = sym (too-deep w word (omega arith)) ∙ sym e ∙ q in
+          let o : _≡_ {A = ℕ} 0 1 = cc in
+          absurd (omega arith)
+    ]
 
 -- a reference that is to no node
 abbrev pub NoNode : Ref → Type 0

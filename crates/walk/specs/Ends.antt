@@ -60,9 +60,9 @@ Ends pool n stop (AtEmpty s) = Stands pool n stop s Empty
 Ends pool n stop (Stopped s j b) = Stops pool n stop s j b
 Ends pool n stop (Damaged m) = m ≤ 16
 
--- how many nodes a walk passed
-abbrev pub nodesOf : End → ℕ
-nodesOf (AtLeaf s i) = s .nodes
-nodesOf (AtEmpty s) = s .nodes
-nodesOf (Stopped s j b) = s .nodes
-nodesOf (Damaged m) = m
+-- how many nodes had an accepted header on a walk, one at which it stopped among them
+abbrev pub metOf : End → ℕ
+metOf (AtLeaf s i) = s .nodes
+metOf (AtEmpty s) = s .nodes
+metOf (Stopped s j b) = s .nodes + 1
+metOf (Damaged m) = m

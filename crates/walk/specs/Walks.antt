@@ -7,7 +7,7 @@ use lib.Dec.{eqb, leb, ltb}
 use Rattle.digits.specs.Choice.{pick}
 use Rattle.digits.specs.Loops.{scan, tally}
 use Rattle.digits.specs.Digits.{digitOf}
-use Rattle.digits.specs.Headers.{depthOf, lengthOf}
+use Rattle.digits.specs.Headers.{depthOf, lengthOf, differs}
 use Rattle.pool.specs.Places.{wordAt, keyAt, headerAt, childAt, childWord}
 use Rattle.pool.specs.Refs.{refOf}
 use Rattle.pool.specs.declared.Ref.{Ref}
@@ -48,17 +48,36 @@ endOf s (Leaf i) = AtLeaf s i
 endOf s (Node j) = Damaged (s .nodes)
 endOf s Bad = Damaged (s .nodes)
 
--- It stops before the first node that branches at or past `stop`. At most
--- so many nodes are met as the first number says.
-unfoldable pub walkFrom : ℕ → List ℕ → ℕ → ℕ → ℕ → Spot → End
-walkFrom zero pool n key stop s = Damaged (s .nodes)
-walkFrom (suc more) pool n key stop s =
+-- What stops a walk at a node whose header is accepted: a test of the key, the header word and the branch place.
+abbrev pub Test : Type 0
+Test = ℕ → ℕ → ℕ → Bool
+
+-- the node branches at or past `stop`
+abbrev pub past : ℕ → Test
+past stop key word b = leb stop b
+
+-- never: no header that is accepted branches at 16
+abbrev pub never : Test
+never = past 16
+
+-- a stored digit differs from the key's
+abbrev pub unlike : Test
+unlike key word b = differs word key
+
+-- It ends before the first node at which the test stops it. At most so many nodes are met as the first number says.
+unfoldable pub walkFrom : ℕ → List ℕ → ℕ → ℕ → Test → Spot → End
+walkFrom zero pool n key test s = Damaged (s .nodes)
+walkFrom (suc more) pool n key test s =
     elim (refOf n (wordAt pool (s .at))) [
       | Empty ↦ endOf s Empty
       | Leaf i ↦ endOf s (Leaf i)
       | Node j ↦
           elim (headOf (s .depth) (headerAt pool n j)) [
-            | Branch b ↦ elim (leb stop b) [ true ↦ Stopped s j b | false ↦ walkFrom more pool n key stop (below n j b (digitOf key b) s) ]
+            | Branch b ↦
+                elim (test key (headerAt pool n j) b) [
+                  | true ↦ Stopped s j b
+                  | false ↦ walkFrom more pool n key test (below n j b (digitOf key b) s)
+                ]
             | Wrong ↦ Damaged (s .nodes)
           ]
       | Bad ↦ endOf s Bad
@@ -66,11 +85,15 @@ walkFrom (suc more) pool n key stop s =
 
 -- the walk that stops before the first node with b >= stop
 abbrev pub walkTo : List ℕ → ℕ → ℕ → ℕ → End
-walkTo pool n key stop = walkFrom 17 pool n key stop root
+walkTo pool n key stop = walkFrom 17 pool n key (past stop) root
 
--- the walk: no node branches at 16
+-- the walk
 abbrev pub walkOf : List ℕ → ℕ → ℕ → End
-walkOf pool n key = walkTo pool n key 16
+walkOf pool n key = walkFrom 17 pool n key never root
+
+-- Document 02: the walk that "compares stored digits on the way and stops at the first that differs"
+abbrev pub quickWalk : List ℕ → ℕ → ℕ → End
+quickWalk pool n key = walkFrom 17 pool n key unlike root
 
 -- "A child is any of the sixteen words that is not 0."
 abbrev pub isChild : List ℕ → ℕ → ℕ → ℕ → Bool

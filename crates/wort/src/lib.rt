@@ -2,7 +2,7 @@
 ghost use mathlib.Core.Path.{_≡_};
 ghost use Rattle.digits.specs.Choice.{pick};
 ghost use Rattle.plan.specs.Plans.{after, StepGives};
-ghost use Rattle.finding.specs.Lookups.{answer, LookupGives};
+ghost use Rattle.finding.specs.Lookups.{answer, told as toldFound, LookupGives, QuickGives};
 ghost use Rattle.listing.specs.Listings.{told, shown, ListGives};
 ghost use Rattle.rules.specs.Puts.{PlanPutGives};
 ghost use Rattle.rules.specs.Deletes.{PlanDeleteGives};
@@ -41,7 +41,23 @@ pub extern "C" fn wort_open(
 pub extern "C" fn wort_lookup(pool: &[u64], key: u64, value: &mut u64, nodes: &mut u64) -> u64
     ensures { λ r. ⌜ LookupGives (now (pool .entry)) key (answer r (now (value .exit)) (now (nodes .exit))) ⌝ }
 {
-    match finding::lookup(pool, key) {
+    let f = finding::lookup(pool, key);
+    tell(value, nodes, f)
+}
+
+#[no_mangle]
+pub extern "C" fn wort_lookup_quick(pool: &[u64], key: u64, value: &mut u64, nodes: &mut u64) -> u64
+    ensures { λ r. ⌜ QuickGives (now (pool .entry)) key (answer r (now (value .exit)) (now (nodes .exit))) ⌝ }
+{
+    let f = finding::lookup_quick(pool, key);
+    tell(value, nodes, f)
+}
+
+// Hands out what a lookup found, in the numbers of each case.
+fn tell(value: &mut u64, nodes: &mut u64, f: Found) -> u64
+    ensures { λ r. ⌜ answer r (now (value .exit)) (now (nodes .exit)) ≡ toldFound f ⌝ }
+{
+    match f {
         Found::Hit(v, m) => found(value, nodes, v, m, 0),
         Found::Absent(m) => found(value, nodes, 0, m, 3),
         Found::Met(m) => found(value, nodes, 0, m, 2),

@@ -6,16 +6,16 @@ use borrow.Author.Needs.{needs}
 use lib.ListN.{length}
 use Rattle.pool.specs.Sizes.{Sized}
 use Rattle.pool.specs.Places.{wordAt}
-use Rattle.walk.specs.Walks.{walkOf}
+use Rattle.walk.specs.Walks.{never, walkOf}
 use Rattle.walk.specs.Ends.{Accepted}
 use Rattle.walk.proofs.Heads.{NoNode, low-no-node, unmatched, refused, accepted}
 use Rattle.finding.specs.Lookups.{foundAt, lookupOf}
-use Rattle.finding.proofs.Lookups.{Comes, comes-root, comes-end, comes-damaged, comes-below, lookup-wrong, lookup-holds}
+use Rattle.finding.proofs.Lookups.{Comes, comes-root, comes-end, comes-damaged, comes-on, lookup-wrong, lookup-holds}
 use Rattle.finding.proofs.lookup.Statement.{statement}
 use Rattle.finding.proofs.lookup.Tie as tie
 
 abbrev Inv-loop : tie.InvT-loop
-Inv-loop pool key n x₀ w₀ nodes₀ x w nodes = Sized pool n × Comes pool n key x w nodes × (foundAt pool key (walkOf pool n key) ≡ lookupOf pool key)
+Inv-loop pool key n x₀ w₀ nodes₀ x w nodes = Sized pool n × Comes pool n key never x w nodes × (foundAt pool key (walkOf pool n key) ≡ lookupOf pool key)
 
 abbrev μ-loop : tie.MeasureT-loop
 μ-loop pool key n x₀ w₀ nodes₀ x w nodes = 16 - w
@@ -163,7 +163,7 @@ loop-again c =
     let i = at-loop t .loop .inv in
     let d = c .before .digit in (
       i .0,
-      comes-below (i .1) (node (c .before .before .before)) (d .ensures)
+      comes-on (i .1) (node (c .before .before .before)) (d .ensures)
           (ap (λ at. wordAt (start t .args .pool .now) (at + 1 + d .result)) (at-word t .node-word .ensures)),
       i .2,
     )

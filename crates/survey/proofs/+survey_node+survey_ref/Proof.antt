@@ -17,10 +17,11 @@ use Rattle.pool.proofs.header.Reads as header-reads
 use Rattle.pool.proofs.leaf_key.Reads as leaf-key-reads
 use Rattle.pool.proofs.reference.Reads as reference-reads
 use Rattle.walk.specs.Walks.{isChild}
+use Rattle.walk.proofs.Heads.{header-fits}
 use Rattle.walk.proofs.Loops.{tally-le}
 use Rattle.walk.proofs.accept.Kinds as accept-kinds
 use Rattle.walk.proofs.accept.Reads as accept-reads
-use Rattle.survey.proofs.Turns.{Joined, joined-none, joined-empty, joined-child, joined-over, node-wrong, node-again, node-few, node-over, node-judged, header-fits, ref-empty, ref-leaf, ref-node, ref-bad}
+use Rattle.survey.proofs.Turns.{Joined, joined-none, joined-empty, joined-child, joined-over, node-wrong, node-again, node-few, node-over, node-judged, ref-empty, ref-leaf, ref-node, ref-bad}
 use Rattle.survey.proofs.damage.Kinds as damage-kinds
 use Rattle.survey.proofs.meet_leaf.Kinds as meet-leaf-kinds
 use Rattle.survey.proofs.join.Kinds as join-kinds

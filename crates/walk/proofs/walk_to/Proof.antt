@@ -3,9 +3,10 @@ use mathlib.Core.Path.{_≡_, refl, sym, _∙_}
 use Prim.Native.Nat.{_-_}
 use native.Mathlib.Omega.{arith}
 use borrow.Author.Needs.{needs}
+use borrow.Author.Tests.{le-leb, lt-leb}
 use Rattle.digits.proofs.Digits.{digit-lt}
 use Rattle.pool.specs.Places.{wordAt}
-use Rattle.walk.specs.Walks.{walkFrom, walkTo}
+use Rattle.walk.specs.Walks.{past, walkFrom, walkTo}
 use Rattle.walk.specs.Ends.{Accepted, Inside}
 use Rattle.walk.proofs.Heads.{unmatched, refused, accepted}
 use Rattle.walk.proofs.Walks.{walk-ends, walk-damaged, walk-stops, walk-on}
@@ -14,7 +15,7 @@ use Rattle.walk.proofs.walk_to.Statement.{statement}
 use Rattle.walk.proofs.walk_to.Tie as tie
 
 abbrev Inv-loop : tie.InvT-loop
-Inv-loop pool n key stop s₀ s = Inside pool n stop s × (walkFrom 17 pool n key stop s ≡ walkTo pool n key stop)
+Inv-loop pool n key stop s₀ s = Inside pool n stop s × (walkFrom 17 pool n key (past stop) s ≡ walkTo pool n key stop)
 
 abbrev μ-loop : tie.MeasureT-loop
 μ-loop pool n key stop s₀ s = 16 - s .depth
@@ -92,7 +93,8 @@ returns-2 c =
     sym (walk-damaged _ _ _ _ 16 _ _ a) ∙ at-loop t .loop .inv .1
 
 returns-3 : tie.Need-returns-3 Inv-loop μ-loop
-returns-3 c = sym (walk-stops _ _ _ _ 16 _ _ _ (node (c .before .before)) (c .if1 .taken)) ∙ at-loop (c .before .before .before .before) .loop .inv .1
+returns-3 c =
+    sym (walk-stops _ _ _ _ 16 _ _ _ (node (c .before .before)) (le-leb _ _ (c .if1 .taken))) ∙ at-loop (c .before .before .before .before) .loop .inv .1
 
 digit-requires : tie.Need-digit-requires Inv-loop μ-loop
 digit-requires c κs = search needs
@@ -113,7 +115,7 @@ loop-again c =
     let a = node (c .before .before .before .before) in
     let h = c .before .before .if1 .left in
     let i = at-loop t .loop .inv in
-    rw (c .past .ensures, c .before .digit .ensures) (below-inside (start t .pre) _ (i .0) a h (digit-lt 16 _ _), walk-on _ _ _ _ _ _ _ a h ∙ i .1)
+    rw (c .past .ensures, c .before .digit .ensures) (below-inside (start t .pre) _ (i .0) a h (digit-lt 16 _ _), walk-on _ _ _ _ _ _ _ a (lt-leb _ _ h) ∙ i .1)
 
 pub walk-to-spec : {M : Type 1} → statement M
 walk-to-spec =
