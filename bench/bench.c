@@ -16,6 +16,8 @@
 #define BYTES WORT_BYTES(KEYS)
 #define LINE_WORDS 8 /* a line is 64 bytes */
 
+_Static_assert(WORT_PLAN == PLAIN_PLAN, "plain.h's places are those of the library's plans too");
+
 static uint64_t pool[WORDS] __attribute__((aligned(64)));
 static uint8_t map[BYTES];
 
@@ -443,7 +445,7 @@ static void time_open(uint64_t n)
     uint64_t stores, headers, size = WORT_WORDS(n) * sizeof *straight;
     expect(!wort_format(straight, WORT_WORDS(n), map, WORT_BYTES(n), n));
     for (uint64_t i = 0; i < n; i++)
-        expect(!wort_put(straight, WORT_WORDS(n), map, WORT_BYTES(n), open_key(i), i, &stores));
+        expect(!wort_put(straight, WORT_WORDS(n), map, WORT_BYTES(n), open_key(i), i + 1, &stores));
     memcpy(stale, straight, size);
     uint64_t wanted = make_stale(stale, n);
     for (size_t round = 0; round < ROUNDS; round++) {
@@ -481,27 +483,27 @@ static uint64_t count_lines(const uint64_t *plan, uint64_t from, uint64_t to)
     for (uint64_t i = from; i < to; i++) {
         bool before = false;
         for (uint64_t j = from; j < i; j++)
-            before |= plan[4 + j] / LINE_WORDS == plan[4 + i] / LINE_WORDS;
+            before |= plan[PLAN_PLACES + j] / LINE_WORDS == plan[PLAN_PLACES + i] / LINE_WORDS;
         lines += !before;
     }
     return lines;
 }
 
-/* The stores before `last` are one ordered group, the rest another. A line is flushed once for each group that stores to it. */
-static void add_cost(struct cost *cost, const uint64_t *plan, uint64_t last)
+/* A line is flushed once for each group that stores to it. */
+static void add_cost(struct cost *cost, const uint64_t *plan)
 {
-    uint64_t count = plan[0];
+    uint64_t count = plan[PLAN_COUNT], first = plan[PLAN_FIRST];
     cost->operations++;
     cost->stores += count;
-    cost->groups += (last > 0) + (count > last);
+    cost->groups += (first > 0) + (count > first);
     cost->parts += count_parts(count);
     cost->lines += count_lines(plan, 0, count);
-    cost->flushes += count_lines(plan, 0, last) + count_lines(plan, last, count);
+    cost->flushes += count_lines(plan, 0, first) + count_lines(plan, first, count);
 }
 
 static void carry_out(const uint64_t *plan)
 {
-    for (uint64_t at = 0; at < plan[0]; at++)
+    for (uint64_t at = 0; at < plan[PLAN_COUNT]; at++)
         expect(!wort_step(pool, WORDS, plan, at));
     expect(!wort_finish(map, BYTES, plan));
 }
@@ -514,7 +516,6 @@ static void show_cost(const char *shape, const char *operation, const struct cos
            cost->flushes / operations);
 }
 
-/* A put's last store switches; a delete's first does. */
 static void count_costs(const char *shape, const uint64_t *keys)
 {
     static struct orders orders;
@@ -524,20 +525,20 @@ static void count_costs(const char *shape, const uint64_t *keys)
     wort_pass_empty();
     for (size_t i = 0; i < KEYS; i++) {
         expect(!wort_plan_put(pool, WORDS, map, BYTES, orders.put[i], 1, plan));
-        add_cost(&insert, plan, plan[0] - 1);
-        add_cost(plan[0] == 3 ? &add : plan[0] == 20 ? &split_leaf : &split_node, plan, plan[0] - 1);
+        add_cost(&insert, plan);
+        add_cost(plan[PLAN_COUNT] == 3 ? &add : plan[PLAN_COUNT] == 20 ? &split_leaf : &split_node, plan);
         carry_out(plan);
     }
     for (size_t i = 0; i < KEYS; i++) {
         expect(!wort_plan_put(pool, WORDS, map, BYTES, orders.hit[i], 2, plan));
-        add_cost(&replace, plan, plan[0] - 1);
+        add_cost(&replace, plan);
         carry_out(plan);
     }
     for (size_t i = 0; i < KEYS; i++) {
         expect(!wort_plan_delete(pool, WORDS, orders.del[i], plan));
-        add_cost(&del, plan, 1);
-        if (plan[0] == 2)
-            add_cost(&merge_node, plan, 1);
+        add_cost(&del, plan);
+        if (plan[PLAN_COUNT] == 2)
+            add_cost(&merge_node, plan);
         carry_out(plan);
     }
     show_cost(shape, "put, new key", &insert);

@@ -6,7 +6,6 @@
 
 enum { DONE, SIZE, DAMAGE, ABSENT, NO_ROOM, NO_STEP, BUFFERS, RETIRED };
 enum { NOTHING, TAKES_LEAF, TAKES_LEAF_AND_NODE, FREES_LEAF, FREES_LEAF_AND_NODE };
-enum { COUNT, EFFECT, LEAF_BYTE, NODE_BYTE, PLACES, VALUES = PLACES + 21 };
 
 #define MOST_LEAVES 1024
 #define MOST_STORES 21
@@ -566,25 +565,25 @@ uint64_t plain_format(uint64_t *pool, size_t words, uint8_t *map, size_t bytes, 
 
 uint64_t plain_step(uint64_t *pool, size_t words, const uint64_t plan[PLAIN_PLAN], uint64_t at)
 {
-    if (plan[COUNT] > MOST_STORES || at >= plan[COUNT] || plan[PLACES + at] >= words)
+    if (plan[PLAN_COUNT] > MOST_STORES || at >= plan[PLAN_COUNT] || plan[PLAN_PLACES + at] >= words)
         return NO_STEP;
-    pool[plan[PLACES + at]] = plan[VALUES + at];
+    pool[plan[PLAN_PLACES + at]] = plan[PLAN_VALUES + at];
     return DONE;
 }
 
 /* An effect above 4 names no change of a map. */
 uint64_t plain_finish(uint8_t *map, size_t bytes, const uint64_t plan[PLAIN_PLAN])
 {
-    uint64_t effect = plan[EFFECT];
+    uint64_t effect = plan[PLAN_EFFECT];
     if (effect == NOTHING)
         return DONE;
     bool with_node = effect == TAKES_LEAF_AND_NODE || effect == FREES_LEAF_AND_NODE;
     uint8_t byte = effect == TAKES_LEAF || effect == TAKES_LEAF_AND_NODE;
-    if (effect > FREES_LEAF_AND_NODE || plan[LEAF_BYTE] >= bytes || (with_node && plan[NODE_BYTE] >= bytes))
+    if (effect > FREES_LEAF_AND_NODE || plan[PLAN_LEAF] >= bytes || (with_node && plan[PLAN_NODE] >= bytes))
         return NO_STEP;
-    map[plan[LEAF_BYTE]] = byte;
+    map[plan[PLAN_LEAF]] = byte;
     if (with_node)
-        map[plan[NODE_BYTE]] = byte;
+        map[plan[PLAN_NODE]] = byte;
     return DONE;
 }
 
@@ -592,9 +591,16 @@ uint64_t plain_finish(uint8_t *map, size_t bytes, const uint64_t plan[PLAIN_PLAN
 
 static inline void add_store(uint64_t *plan, size_t place, uint64_t value)
 {
-    uint64_t at = plan[COUNT]++;
-    plan[PLACES + at] = place;
-    plan[VALUES + at] = value;
+    uint64_t at = plan[PLAN_COUNT]++;
+    plan[PLAN_PLACES + at] = place;
+    plan[PLAN_VALUES + at] = value;
+}
+
+/* The plan is made: so many of its stores are its first group. */
+static inline uint64_t grouped(uint64_t *plan, uint64_t first)
+{
+    plan[PLAN_FIRST] = first;
+    return DONE;
 }
 
 uint64_t plain_plan_put(const uint64_t *pool, size_t words, const uint8_t *map, size_t bytes, uint64_t key, uint64_t value, uint64_t plan[PLAIN_PLAN])
@@ -611,7 +617,7 @@ uint64_t plain_plan_put(const uint64_t *pool, size_t words, const uint8_t *map, 
         return DAMAGE;
     if (fitting == HELD) {
         add_store(plan, fit.place, value);
-        return DONE;
+        return grouped(plan, 1);
     }
     size_t leaf = lowest_free(map, n);
     size_t node = fitting == SPLIT ? lowest_free(map + n, n - 1) : 0;
@@ -619,25 +625,25 @@ uint64_t plain_plan_put(const uint64_t *pool, size_t words, const uint8_t *map, 
         return NO_ROOM;
     add_store(plan, key_place(leaf + 1), key);
     add_store(plan, key_place(leaf + 1) + 1, value);
-    plan[EFFECT] = TAKES_LEAF;
-    plan[LEAF_BYTE] = leaf;
+    plan[PLAN_EFFECT] = TAKES_LEAF;
+    plan[PLAN_LEAF] = leaf;
     if (fitting == EMPTY) {
         add_store(plan, fit.place, leaf + 1);
-        return DONE;
+        return grouped(plan, plan[PLAN_COUNT] - 1);
     }
-    plan[EFFECT] = TAKES_LEAF_AND_NODE;
-    plan[NODE_BYTE] = n + node;
+    plan[PLAN_EFFECT] = TAKES_LEAF_AND_NODE;
+    plan[PLAN_NODE] = n + node;
     uint64_t link = node + FIRST_NODE;
     size_t at = header_place(link, n);
     add_store(plan, at, header_of(fit.w, fit.f, key));
     for (unsigned c = 0; c < CHILDREN; c++)
         add_store(plan, at + 1 + c, 0);
-    plan[VALUES + 3 + digit(key, fit.f)] = leaf + 1;
-    plan[VALUES + 3 + digit(fit.k2, fit.f)] = pool[fit.place];
+    plan[PLAN_VALUES + 3 + digit(key, fit.f)] = leaf + 1;
+    plan[PLAN_VALUES + 3 + digit(fit.k2, fit.f)] = pool[fit.place];
     if (fit.target)
         add_store(plan, fit.target, header_of(fit.f + 1, fit.b, fit.k2));
     add_store(plan, fit.place, link);
-    return DONE;
+    return grouped(plan, plan[PLAN_COUNT] - 1);
 }
 
 uint64_t plain_plan_delete(const uint64_t *pool, size_t words, uint64_t key, uint64_t plan[PLAIN_PLAN])
@@ -653,10 +659,10 @@ uint64_t plain_plan_delete(const uint64_t *pool, size_t words, uint64_t key, uin
     add_store(plan, removal.switched, removal.with);
     if (removal.header)
         add_store(plan, removal.header, removal.fresh);
-    plan[EFFECT] = removal.node ? FREES_LEAF_AND_NODE : FREES_LEAF;
-    plan[LEAF_BYTE] = removal.leaf - 1;
-    plan[NODE_BYTE] = removal.node ? n + removal.node - FIRST_NODE : 0;
-    return DONE;
+    plan[PLAN_EFFECT] = removal.node ? FREES_LEAF_AND_NODE : FREES_LEAF;
+    plan[PLAN_LEAF] = removal.leaf - 1;
+    plan[PLAN_NODE] = removal.node ? n + removal.node - FIRST_NODE : 0;
+    return grouped(plan, 1);
 }
 
 uint64_t plain_plan_open(const uint64_t *pool, size_t words, uint64_t plan[PLAIN_PLAN])
@@ -672,7 +678,7 @@ uint64_t plain_plan_open(const uint64_t *pool, size_t words, uint64_t plan[PLAIN
         if (survey.stale[i]) {
             unsigned node = 64 * i + __builtin_ctzll(survey.stale[i]);
             add_store(plan, header_place(FIRST_NODE + node, n), survey.fresh[node]);
-            return DONE;
+            return grouped(plan, 1);
         }
     }
     return DONE;

@@ -4,7 +4,11 @@
 #include <stddef.h>
 #include <stdint.h>
 
-#define PLAIN_PLAN 46
+/* A plan's words, by their places: the count, the stores of the first group, fences, effect, its data (a leaf's and a node's map byte, a
+ * word that no effect uses), then the word numbers and the values, with places for more stores than a plan may hold. */
+enum { PLAN_COUNT, PLAN_FIRST, PLAN_FENCES, PLAN_EFFECT, PLAN_LEAF, PLAN_NODE, PLAN_SPARE, PLAN_PLACES, PLAN_ROOM = 23 };
+#define PLAN_VALUES (PLAN_PLACES + PLAN_ROOM)
+#define PLAIN_PLAN (PLAN_VALUES + PLAN_ROOM)
 
 uint64_t plain_format(uint64_t *pool, size_t words, uint8_t *map, size_t bytes, uint64_t n);
 uint64_t plain_open(uint64_t *pool, size_t words, uint8_t *map, size_t bytes, uint64_t *keys, uint64_t *headers);

@@ -7,11 +7,12 @@ Every word, answer and listing shown is what the library's calls left and said. 
 (target/staticlib).
 """
 
+import itertools
 import sys
 import tempfile
 
 from svg import FAINT, INK, PAPER, Picture
-from wort import LEFT_OVER, ROOT, Pool, load
+from wort import LEFT_OVER, ROOT, Pool, Refused, load
 
 KEYS = [0x200, 0x202, 0x20F, 0x222]  # the names of document 01's example; their file numbers are 1 to 4
 NEW, FILE = KEYS[3], 4
@@ -142,10 +143,10 @@ def slot(pool, word):
 
 def shown_words(pool, plan):
     """The words that the plan stores to, as they stand in the pool, by the leaf or node that they belong to."""
-    groups = {}
+    slots = {}
     for word in sorted({word for word, _ in plan.stores}):
-        groups.setdefault(slot(pool, word), []).append(word)
-    return groups
+        slots.setdefault(slot(pool, word), []).append(word)
+    return slots
 
 
 def glyph(pool, word, value):
@@ -157,11 +158,11 @@ def glyph(pool, word, value):
     return "v" if "value" in pool.name(word) else "h" if pool.is_header(word) else "k"
 
 
-def strip(p, pool, groups, x, y, plan, made, state):
+def strip(p, pool, slots, x, y, plan, made, state):
     """The words of one state as a row of cells."""
     stored = {word for word, _ in plan.stores[:made]}
-    for group in groups.values():
-        for word in group:
+    for words in slots.values():
+        for word in words:
             value = state.words[word]
             last = made and word == plan.stores[made - 1][0]
             fill = BLUE if last else PALE if word in stored else GREY if value == LEFT_OVER else PAPER
@@ -171,17 +172,17 @@ def strip(p, pool, groups, x, y, plan, made, state):
         x += GAP
 
 
-def strip_heads(p, pool, groups, x, y):
-    for name, group in groups.items():
+def strip_heads(p, pool, slots, x, y):
+    for name, words in slots.items():
         p.text(x, y - 14, name, 10)
-        for word in group:
+        for word in words:
             kind = pool.name(word).split()[-1]
             p.text(x + CELL / 2, y, {"root": "", "key": "k", "value": "v", "header": "h"}.get(kind, kind), 10, FAINT, "middle", True)
             x += CELL
         x += GAP
 
 
-def split_row(p, pool, groups, y, plan, made, state):
+def split_row(p, pool, slots, y, plan, made, state):
     p.text(40, y + 13, str(made), 11, anchor="end", mono=True)
     if made:
         word, value = plan.stores[made - 1]
@@ -189,18 +190,18 @@ def split_row(p, pool, groups, y, plan, made, state):
         p.text(256, y + 13, written(pool, word, value), 11, anchor="end", mono=True)
     else:
         p.text(52, y + 13, "before the put", 11)
-    strip(p, pool, groups, STRIP, y, plan, made, state)
+    strip(p, pool, slots, STRIP, y, plan, made, state)
     for i, (found, _) in enumerate(state.lookups):
         p.text(682 + 36 * i, y + 13, "absent" if found is None else str(found), 10, RED if found is None else INK, "middle", found is not None)
     p.text(820, y + 13, state.listed(), 11, mono=True)
     p.text(944, y + 13, str(state.opened[1]), 11, RED if state.opened[1] else INK, "end", True)
 
 
-def split_heads(p, pool, groups, y):
+def split_heads(p, pool, slots, y):
     p.text(40, y, "store", 10, FAINT, "end")
     p.text(52, y, "which word", 10, FAINT)
     p.text(256, y, "becomes", 10, FAINT, "end")
-    strip_heads(p, pool, groups, STRIP, y)
+    strip_heads(p, pool, slots, STRIP, y)
     p.text(736, y - 14, "lookup says, for", 10, anchor="middle")
     for i, key in enumerate(KEYS):
         p.text(682 + 36 * i, y, short(key), 10, FAINT, "middle", True)
@@ -220,26 +221,36 @@ def panels(states):
     return runs
 
 
+def fence(p, y, words):
+    """A line for a fence, with its words below it."""
+    p.line(20, y + 4, 940, y + 4, BLUE, 2, dash="6 4")
+    p.text(20, y + 19, words, 11, BLUE, bold=True)
+    return y + 26
+
+
 def picture_split(library):
     pool = three_names(library)
     plan = pool.plan_put(NEW, FILE)
     states = run(pool, plan)
-    groups, turn = shown_words(pool, plan), switch(states)
+    slots, turn = shown_words(pool, plan), switch(states)
     runs = panels(states)
     p = Picture(960, 1010, "A put that splits a node, store by store")
     p.text(20, 28, f"A put of {short(NEW)} that splits node 0: {len(plan.stores)} stores, one switch", 16, bold=True)
     p.text(20, 48, f"A pool of {PLACES} places holds {', '.join(short(k) for k in KEYS[:3])}. Each row is the memory after one more store; power may go after any of them.", 12)
     legend(p, 20, 72, [(BLUE, INK, "stored just now"), (PALE, INK, "stored by this put"), (PAPER, INK, "held before"), (GREY, INK, "left over, not reached")])
     p.text(600, 72, "k key, v value, h header, L leaf, N node, 0 empty", 11, FAINT)
-    split_heads(p, pool, groups, 114)
+    split_heads(p, pool, slots, 114)
     y = 122
     for made, state in enumerate(states):
+        if made == plan.first + 1:
+            y = fence(p, y, f"a fence here, on memory that needs one: the stores 1 to {plan.first} are a group, and may arrive in any order")
         if made == turn:
             p.line(20, y + 4, 940, y + 4, RED, 2)
             p.text(20, y + 19, "the switch: the last store. Until here the name is absent from both lookup and listing, from here on it is in both.", 11, RED, bold=True)
             y += 26
-        split_row(p, pool, groups, y, plan, made, state)
+        split_row(p, pool, slots, y, plan, made, state)
         y += 21
+    y = fence(p, y, "and one here, before the next operation begins")
     p.text(20, y + 32, "The tree as lookup sees it", 14, bold=True)
     p.text(240, y + 32, "A node shows the walk depth at which it is met, and the digit that chooses its child (in blue). A leaf shows name : file.", 11, FAINT)
     for i, (first, last) in enumerate(runs):
@@ -290,17 +301,17 @@ def picture_merge(library):
     cut = stale.pool.copy()
     names, headers = cut.open()
     opened = State(cut)
-    assert switch(states) == 1 and done.words == opened.words and done.map == opened.map
+    assert switch(states) == plan.first == 1 and done.words == opened.words and done.map == opened.map
     stored = [f"{pool.name(word)} := {written(pool, word, value)}" for word, value in plan.stores]
     p = Picture(960, 1060, "A delete that merges two nodes, its stale node, and the opening that mends it")
-    p.text(20, 28, f"A delete of {short(NEW)} that merges two nodes: {len(plan.stores)} stores, the first is the switch", 16, bold=True)
+    p.text(20, 28, f"A delete of {short(NEW)} that merges two nodes: {len(plan.stores)} stores, the first is the switch, each is a group", 16, bold=True)
     legend(p, 20, 54, [(PALE, INK, "node"), (ROSE, RED, "stale node: its depth is above the walk depth at which it is met"), (GREEN, INK, "leaf, name : file number")])
     p.text(20, 74, "A node shows the walk depth at which it is met, and the digit that chooses its child (in blue): depth + length, which stale nodes keep.", 11, FAINT)
     panel(p, 20, 94, 2, "Before", states[0], "node 1 has two children: the leaf that goes, and node 0", taken(states[0]))
     panel(p, 500, 94, 2, "After store 1, the switch", stale, stored[0] + " (a delete counts from its first store)", "as before, until the delete finishes; lost if power goes", RED)
     p.line(462, 300, 496, 300, INK, 1.5, True)
     p.line(600, 520, 330, 567, INK, 1.5, True)
-    p.text(20, 546, f"store 2: {stored[1]}", 11, mono=True)
+    p.text(20, 546, f"fence; store 2: {stored[1]}; fence", 11, mono=True)
     p.line(720, 520, 720, 566, INK, 1.5, True)
     p.text(732, 540, "power goes; the map is lost", 11)
     p.text(732, 556, f"open: {names} names, {headers} header mended", 11)
@@ -432,6 +443,61 @@ def walk_row(pool, plan, made, before, state):
     return f"| {made} | {word} | {pool.name(word)} | {was} | {becomes} | {found} | {nodes} | {state.listed()} | {mend} |"
 
 
+def subsets(stores):
+    return [list(part) for size in range(len(stores) + 1) for part in itertools.combinations(stores, size)]
+
+
+def numbers(stores):
+    """Stores by their numbers, from 1 on."""
+    return ", ".join(str(at + 1) for at in stores)
+
+
+def group_row(what, states):
+    """A row for states that answer alike."""
+    (answers,) = {(tuple(v for v, _ in s.lookups), s.listed(), tuple(s.mend)) for s in states}
+    found = " ".join("absent" if v is None else f"{v}" for v in answers[0])
+    mend = ", ".join(f"{states[0].pool.name(word)} := {hexed(value)}" for word, value in answers[2]) or "none"
+    return f"| {what} | {len(states)} | {found} | {answers[1]} | {mend} |"
+
+
+def too_early(pool):
+    """What is wrong where the last store arrived before another: a call meets damage, or the new name has a file number that was never given."""
+    try:
+        pool.list()
+        found = [pool.lookup(key)[0] for key in KEYS]
+        pool.copy().open()
+    except Refused:
+        return "damage"
+    assert found[:3] == [1, 2, 3] and found[3] == LEFT_OVER
+    return "number"
+
+
+def walk_groups(start, plan):
+    """The put's two groups: what a cut leaves when a group's stores arrive in any order, and what it could leave without the fence between."""
+    first, last = range(plan.first), len(plan.stores) - 1
+    chosen = [at for at in first if plan.stores[at][1]]
+    others = [at for at in first if not plan.stores[at][1]]
+    header = first[-1]
+    arrived = [part + more for part in subsets(chosen) for more in ([], others)]
+    cut = [(part, State(start.left(plan, part))) for part in arrived]
+    rows = [
+        group_row(f"some of 1 to {header + 1}, without {header + 1}", [state for part, state in cut if header not in part]),
+        group_row(f"some of 1 to {header + 1}, with {header + 1}", [state for part, state in cut if header in part]),
+        group_row(f"1 to {header + 1}, then {last + 1}", [State(start.left(plan, [*first, last]))]),
+    ]
+    early = [too_early(start.left(plan, [last, *part])) for part in arrived if len(part) < len(first)]
+    return f"""The plan's stores are in two groups: 1 to {header + 1}, then {last + 1}. On memory that needs fences the caller puts one after store {header + 1} and one after store {last + 1}, before the next operation begins.
+Between two fences stores may reach memory in any order. So a cut in the first group leaves any of its stores, and not only the first rows of the table.
+
+Tried here with the library: of the first group the {len(chosen)} stores that write something other than 0 ({numbers(chosen)}), every subset of them, with none of the other {len(others)} and with all.
+
+| arrived | tried | lookup {' '.join(short(k) for k in KEYS)} | listing | open mends |
+|---|---|---|---|---|
+{chr(10).join(rows)}
+
+This is what the fence after store {header + 1} is for. Were store {last + 1} to arrive with one of these subsets and not with the whole group, each of the {len(early)} would be wrong: in {early.count("damage")} a call meets damage, in {early.count("number")} the new name has a file number that was never given."""
+
+
 def walkthrough(library):
     pool = three_names(library)
     start = State(pool)
@@ -476,6 +542,10 @@ then node 0's header says where node 0 will be met; last, the root refers to the
 
 **The switch is store {turn}, the last.** After each of the stores 1 to {turn - 1} lookup and listing are those of before the put; from store {turn} on they are those of after it. At no moment does one of them have the name without the other.
 
+## Two groups, two fences
+
+{walk_groups(start.pool, plan)}
+
 ## The moment of the question: {turn - 1} of {len(plan.stores)} stores made
 
 {memory(half, pool)}
@@ -490,13 +560,13 @@ If opening is itself cut, it was cut before that store or after it; the next one
 
 {memory(State(again), again)}
 
-A cut after any of the stores 1 to {turn - 2}, or after store {turn}, leaves nothing to mend.
+A cut before store {turn - 1} has arrived, or after store {turn}, leaves nothing to mend.
 
 ## After the put
 
 {memory(states[-1], pool)}
 
-The listing is {states[-1].listed()}. A delete of {hex(NEW)} goes the other way, by two stores with the switch first:
+The listing is {states[-1].listed()}. A delete of {hex(NEW)} goes the other way, by two stores with the switch first, each a group with a fence behind it. Every operation needs its last fence before the next one begins: after a delete of one store the next put could else fill the freed leaf in memory while the old reference still leads there.
 
 ![The delete, its stale node, and the opening that mends it](pictures/merge.svg)
 """

@@ -8,7 +8,9 @@ import sys
 
 ROOT = pathlib.Path(__file__).resolve().parent.parent
 LIB_DIR = pathlib.Path(os.environ.get("WORT_LIB_DIR", ROOT / "target" / "staticlib"))
-PlanWords = ctypes.c_uint64 * 46
+COUNT, FIRST, PLACES, ROOM = 0, 1, 7, 23  # of a plan's words: the count, the stores of the first group, the first word number, and how many
+VALUES = PLACES + ROOM
+PlanWords = ctypes.c_uint64 * (VALUES + ROOM)
 LEFT_OVER = 0xEEEEEEEEEEEEEEEE  # what the words of a pool hold before it is formatted
 
 
@@ -27,14 +29,20 @@ def load(directory):
     return library
 
 
+class Refused(SystemExit):
+    """A call's refusal: it ends the program where it is not expected."""
+
+
 class Plan:
+    """A plan's words, its stores, and how many of them are its first group."""
+
     def __init__(self, words):
-        self.words = words
-        self.stores = [(words[4 + i], words[25 + i]) for i in range(words[0])]
+        self.words, self.first = words, words[FIRST]
+        self.stores = [(words[PLACES + i], words[VALUES + i]) for i in range(words[COUNT])]
 
 
 class Pool:
-    """A pool with its map, and the library's calls on them. A refusal ends the program."""
+    """A pool with its map, and the library's calls on them."""
 
     def __init__(self, library, n, filler=LEFT_OVER):
         self.library, self.n = library, n
@@ -59,7 +67,7 @@ class Pool:
                 arguments.append(ctypes.byref(a))
         number = getattr(self.library, "wort_" + name)(*arguments)
         if number not in allowed:
-            sys.exit(f"wort_{name} answers {number}")
+            raise Refused(f"wort_{name} answers {number}")
         return number
 
     def format(self):
@@ -87,6 +95,13 @@ class Pool:
 
     def step(self, plan, at):
         self.call("step", self.words, plan.words, at)
+
+    def left(self, plan, arrived):
+        """The pool that a cut leaves when these stores of a plan have arrived, in this order."""
+        cut = self.copy()
+        for at in arrived:
+            cut.step(plan, at)
+        return cut
 
     def finish(self, plan):
         self.call("finish", self.map, plan.words)

@@ -22,21 +22,53 @@ pub const MOST_LEAVES: u64 = 1024;
 /// A plan holds at most this many stores.
 pub const MOST_STORES: usize = 21;
 
-/// Words of a plan: count, effect, the leaf's map byte, the node's map byte, 21 word numbers, 21 values.
-pub const PLAN_WORDS: usize = 46;
+/// The words of a plan, by their places in it. First the count.
 pub const PLAN_COUNT: usize = 0;
-pub const PLAN_EFFECT: usize = 1;
-pub const PLAN_LEAF: usize = 2;
-pub const PLAN_NODE: usize = 3;
+/// The stores of the first group: the count if there is one group, 0 if there is none.
+pub const PLAN_FIRST: usize = 1;
+/// The fences: 0.
+pub const PLAN_FENCES: usize = 2;
+pub const PLAN_EFFECT: usize = 3;
+/// The effect's data: the leaf's map byte, the node's map byte, and a word that no effect uses.
+pub const PLAN_LEAF: usize = 4;
+pub const PLAN_NODE: usize = 5;
+pub const PLAN_SPARE: usize = 6;
 /// The first of the plan's word numbers.
-pub const PLAN_PLACES: usize = 4;
+pub const PLAN_PLACES: usize = 7;
+/// There are places for so many stores, more than a plan holds.
+pub const PLAN_ROOM: usize = 23;
 /// The first of the plan's values.
-pub const PLAN_VALUES: usize = PLAN_PLACES + MOST_STORES;
+pub const PLAN_VALUES: usize = PLAN_PLACES + PLAN_ROOM;
+pub const PLAN_WORDS: usize = PLAN_VALUES + PLAN_ROOM;
 
 pub type Plan = [u64; PLAN_WORDS];
 
 /// The plan that does nothing; a refusal's plan too.
 pub const NO_PLAN: Plan = [0; PLAN_WORDS];
+
+/// A word number and the value that it takes.
+pub type Store = (usize, u64);
+
+/// A plan of these stores, of which so many are the first group, and of no effect on a map.
+pub fn plan_of(stores: &[Store], first: usize) -> Plan {
+    let mut plan = NO_PLAN;
+    plan[PLAN_COUNT] = stores.len() as u64;
+    plan[PLAN_FIRST] = first as u64;
+    for (at, (place, value)) in stores.iter().enumerate() {
+        plan[PLAN_PLACES + at] = *place as u64;
+        plan[PLAN_VALUES + at] = *value;
+    }
+    plan
+}
+
+pub fn store_of(plan: &Plan, at: usize) -> Store {
+    (plan[PLAN_PLACES + at] as usize, plan[PLAN_VALUES + at])
+}
+
+/// The stores of a plan, in their order.
+pub fn stores_of(plan: &Plan) -> Vec<Store> {
+    (0..plan[PLAN_COUNT] as usize).map(|at| store_of(plan, at)).collect()
+}
 
 /// The words of a pool of capacity `n`.
 pub const fn pool_words(n: usize) -> usize {

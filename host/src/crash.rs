@@ -1,8 +1,9 @@
-//! Demand 3 by chance: long sequences of puts and deletes on one pool. Before each goes on, it is cut at every store,
+//! Demand 3 by chance: long sequences of puts and deletes on one pool. Before each goes on, it is cut in each of its groups of stores,
 //! and the opening after it at every store; then it is finished or cut for good.
 
 use crate::answers::*;
 use crate::chance::Chance;
+use crate::cuts::{a_cut, all, arrive, cuts, left, Arrived};
 use crate::pools;
 use crate::table::{lists_as, opens_as, reads_as, store_of_open, Operation, Table};
 
@@ -48,14 +49,10 @@ impl<'a, C: Calls> Crash<'a, C> {
         if planned.number != wanted {
             return Err(format!("{operation:?} gives {}, not {wanted}", planned.number));
         }
-        let count = planned.plan[PLAN_COUNT];
-        let mut cut = self.pool.clone();
-        for made in 0..=count {
-            self.read_cut(&cut, &self.table_after(operation, made, count))
-                .map_err(|what| format!("{operation:?} cut after {made} of {count}: {what}"))?;
-            if made < count && self.calls.step(&mut cut, &planned.plan, made) != DONE {
-                return Err(format!("{operation:?}: step {made} of {count} is refused"));
-            }
+        for arrived in cuts(&self.pool, &planned.plan, &mut self.chance) {
+            let cut = left(&self.pool, &planned.plan, arrived);
+            self.read_cut(&cut, &self.table_after(operation, &planned.plan, arrived))
+                .map_err(|what| format!("{operation:x?} cut when {arrived:?} had arrived: {what}"))?;
         }
         self.go_on(operation, &planned)
     }
@@ -69,9 +66,9 @@ impl<'a, C: Calls> Crash<'a, C> {
         }
     }
 
-    fn table_after(&self, operation: Operation, made: u64, count: u64) -> Table {
+    fn table_after(&self, operation: Operation, plan: &Plan, arrived: Arrived) -> Table {
         let mut table = self.table.clone();
-        if operation.counts(made, count) {
+        if operation.counts(plan, arrived) {
             operation.apply(&mut table);
         }
         table
@@ -79,19 +76,12 @@ impl<'a, C: Calls> Crash<'a, C> {
 
     /// A cut pool reads as the table; so does every pool its openings leave, and each opens to the same end.
     fn read_cut(&mut self, cut: &[u64], table: &Table) -> Result<(), String> {
+        self.read(cut, table)?;
         let mut end = cut.to_vec();
         opens_as(self.calls, &mut end, &mut self.map.clone(), table)?;
-        reads_as(self.calls, &end, table, &self.keys)?;
         let mut pool = cut.to_vec();
-        loop {
-            self.pools += 1;
-            reads_as(self.calls, &pool, table, &self.keys)?;
-            let from = pools::a_key(&mut self.chance, &self.keys);
-            let length = 1 + self.chance.below(self.n);
-            lists_as(self.calls, &pool, table, from, length)?;
-            if !store_of_open(self.calls, &mut pool)? {
-                break;
-            }
+        while store_of_open(self.calls, &mut pool)? {
+            self.read(&pool, table)?;
             let mut again = pool.clone();
             opens_as(self.calls, &mut again, &mut self.map.clone(), table)?;
             if again != end {
@@ -104,20 +94,29 @@ impl<'a, C: Calls> Crash<'a, C> {
         }
     }
 
+    fn read(&mut self, pool: &[u64], table: &Table) -> Result<(), String> {
+        self.pools += 1;
+        reads_as(self.calls, pool, table, &self.keys)?;
+        let from = pools::a_key(&mut self.chance, &self.keys);
+        let length = 1 + self.chance.below(self.n);
+        lists_as(self.calls, pool, table, from, length)
+    }
+
     /// Half of the operations are finished, by single steps or by the whole call; half are cut and opened.
     fn go_on(&mut self, operation: Operation, planned: &Planned) -> Result<(), String> {
-        let count = planned.plan[PLAN_COUNT];
-        let made = match self.chance.below(4) {
+        let plan = &planned.plan;
+        let arrived = match self.chance.below(4) {
             0 => return self.whole_call(operation, planned),
-            1 => count,
-            _ => self.chance.below(count as usize + 1) as u64,
+            1 => all(plan),
+            _ => a_cut(plan, &mut self.chance),
         };
-        for at in 0..made {
-            self.calls.step(&mut self.pool, &planned.plan, at);
+        let wanted = left(&self.pool, plan, arrived);
+        if !arrive(self.calls, &mut self.pool, plan, arrived, &mut self.chance) || self.pool != wanted {
+            return Err(format!("{operation:x?}: the steps {arrived:?} leave other than their stores"));
         }
-        self.table = self.table_after(operation, made, count);
-        if made == count && self.chance.one_in(2) {
-            self.calls.finish(&mut self.map, &planned.plan);
+        self.table = self.table_after(operation, plan, arrived);
+        if arrived == all(plan) && self.chance.one_in(2) {
+            self.calls.finish(&mut self.map, plan);
             return self.map_is_true();
         }
         if self.chance.one_in(2) {
@@ -136,7 +135,7 @@ impl<'a, C: Calls> Crash<'a, C> {
         if (made.number, made.stores) != (planned.number, count) {
             return Err(format!("{operation:?}: {made:?}, its plan says {count}"));
         }
-        self.table = self.table_after(operation, count, count);
+        self.table = self.table_after(operation, &planned.plan, all(&planned.plan));
         self.map_is_true()
     }
 

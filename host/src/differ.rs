@@ -319,15 +319,18 @@ impl Differ {
         }
     }
 
-    /// The plan last made, or one that no planning call gives.
+    /// The plan last made, or one that no planning call gives; now and then with garbage where neither a step nor a finish looks.
     fn some_plan(&mut self) -> Plan {
         let mut plan = self.plan;
         let (words, bytes) = (self.twin.pool.len() as u64, self.twin.map.len() as u64);
         let chance = &mut self.chance;
+        if chance.one_in(2) {
+            fill_unread(chance, &mut plan);
+        }
         match chance.below(12) {
-            0 => plan[PLAN_COUNT] = chance.pick(&[0, 20, 21, 22, 23, u64::MAX, 1 << 32]),
+            0 => plan[PLAN_COUNT] = chance.pick(&[0, 20, 21, 22, 23, 24, u64::MAX, 1 << 32]),
             1 => {
-                let at = chance.below(MOST_STORES);
+                let at = chance.below(PLAN_ROOM);
                 let edges = [0, 1, words, words - words.min(1), words + 1, u64::MAX, 1 << 61, 1 << 32];
                 plan[PLAN_PLACES + at] = chance.pick(&edges);
             }
@@ -396,6 +399,19 @@ fn lend_plan<'a>(lent: &'a mut Fenced<u64>, plan: &Plan) -> &'a Plan {
     lent.run().try_into().expect("a run of a plan's length")
 }
 
+/// Garbage in the words of a plan that say nothing to a step or a finish: its groups, its fences, and all its unused places.
+fn fill_unread(chance: &mut Chance, plan: &mut Plan) {
+    let count = plan[PLAN_COUNT] as usize;
+    let behind = (count..PLAN_ROOM).flat_map(|at| [PLAN_PLACES + at, PLAN_VALUES + at]);
+    for place in [PLAN_FIRST, PLAN_FENCES, PLAN_SPARE].into_iter().chain(behind) {
+        plan[place] = match chance.below(4) {
+            0 => chance.word() % 32,
+            1 => u64::MAX,
+            _ => chance.word(),
+        };
+    }
+}
+
 fn same<T: PartialEq + Debug>(what: &str, ours: &[T], theirs: &[T]) -> Result<(), String> {
     if ours == theirs {
         return Ok(());
@@ -441,9 +457,9 @@ pub const NUMBERS: [(&str, &[u64]); 12] = [
     ("lookup", &[DONE, SIZE, DAMAGE, ABSENT]),
     ("lookup_quick", &[DONE, SIZE, DAMAGE, ABSENT]),
     ("list", &[DONE, SIZE, DAMAGE, BUFFERS]),
-    ("put", &[DONE, SIZE, DAMAGE, NO_ROOM]),
+    ("put", &[DONE, SIZE, DAMAGE, NO_ROOM, RETIRED]),
     ("delete", &[DONE, SIZE, DAMAGE, ABSENT]),
-    ("plan_put", &[DONE, SIZE, DAMAGE, NO_ROOM]),
+    ("plan_put", &[DONE, SIZE, DAMAGE, NO_ROOM, RETIRED]),
     ("plan_delete", &[DONE, SIZE, DAMAGE, ABSENT]),
     ("plan_open", &[DONE, SIZE, DAMAGE]),
     ("step", &[DONE, NO_STEP]),

@@ -1,11 +1,14 @@
-//! Demand 3 with nothing left to chance: every state that a small pool can come to from a formatted one by puts and
-//! deletes, finished or cut at any store, and by openings, finished or cut at any store.
+//! Demand 3 on every state that a small pool can come to from a formatted one by puts and deletes, finished or cut in
+//! either group of their stores, and by openings, finished or cut at any store.
 //!
-//! Between operations a map is true of its pool, so a pool's words are the whole state.
+//! Between operations a map is true of its pool, so a pool's words are the whole state. Free slots that are left as they were, or are 0,
+//! leave a split few words to change: every subset of its first group is tried. With other words in them some subsets are.
 
 use crate::answers::*;
+use crate::chance::Chance;
+use crate::cuts::{all, arrive, cuts, left};
 use crate::table::{opens_as, reads_as, store_of_open, Operation, Table};
-use std::collections::{HashMap, HashSet};
+use std::collections::{HashMap, HashSet, VecDeque};
 
 /// Key sets whose digits force every kind of split and merge, each with what it is for.
 pub const KEY_SETS: [(&str, &[u64]); 5] = [
@@ -46,6 +49,8 @@ pub struct Bounds<'a> {
 pub struct Seen {
     /// Pools between operations.
     pub states: usize,
+    /// Cuts of operations; many leave the same pool.
+    pub cuts: usize,
     /// Pools that were read and opened, cut ones among them.
     pub pools: usize,
     /// Whether every state that can be reached was tried.
@@ -60,10 +65,12 @@ type Known = HashMap<Box<[u64]>, usize>;
 struct Search<'a, C: Calls> {
     calls: &'a C,
     bounds: &'a Bounds<'a>,
+    chance: Chance,
     tables: Vec<Table>,
     known: Known,
     states: HashSet<Box<[u64]>>,
-    to_try: Vec<(Box<[u64]>, usize)>,
+    /// Those that the fewest operations come to are tried first.
+    to_try: VecDeque<(Box<[u64]>, usize)>,
     seen: Seen,
 }
 
@@ -72,10 +79,11 @@ pub fn search(calls: &impl Calls, bounds: &Bounds) -> Result<Seen, String> {
     let mut search = Search {
         calls,
         bounds,
+        chance: Chance::new(1),
         tables: vec![Table::new()],
         known: Known::new(),
         states: HashSet::new(),
-        to_try: Vec::new(),
+        to_try: VecDeque::new(),
         seen: Seen::default(),
     };
     let mut pool = vec![0; pool_words(bounds.n)];
@@ -83,7 +91,7 @@ pub fn search(calls: &impl Calls, bounds: &Bounds) -> Result<Seen, String> {
     assert_eq!(calls.format(&mut pool, &mut map, bounds.n as u64), DONE);
     search.reach(pool, &map, 0);
     let operations = bounds.operations();
-    while let Some((pool, table)) = search.to_try.pop() {
+    while let Some((pool, table)) = search.to_try.pop_front() {
         if search.seen.states == bounds.most {
             return Ok(search.seen);
         }
@@ -112,7 +120,7 @@ impl<C: Calls> Search<'_, C> {
         let pool = pool.into_boxed_slice();
         if !self.states.contains(&pool) {
             self.states.insert(pool.clone());
-            self.to_try.push((pool, table));
+            self.to_try.push_back((pool, table));
         }
     }
 
@@ -146,16 +154,18 @@ impl<C: Calls> Search<'_, C> {
             operation.apply(&mut after);
         }
         let after = self.table_number(after);
-        let count = planned.plan[PLAN_COUNT];
-        let mut cut = pool.to_vec();
-        for made in 0..=count {
-            let table = if operation.counts(made, count) { after } else { before };
-            self.cut(&cut, table).map_err(|what| format!("cut after {made} of {count}: {what}"))?;
-            if made < count && self.calls.step(&mut cut, &planned.plan, made) != DONE {
-                return Err(format!("step {made} of {count} is refused"));
-            }
+        let plan = &planned.plan;
+        for arrived in cuts(pool, plan, &mut self.chance) {
+            self.seen.cuts += 1;
+            let table = if operation.counts(plan, arrived) { after } else { before };
+            self.cut(&left(pool, plan, arrived), table)
+                .map_err(|what| format!("cut when {arrived:?} had arrived: {what}"))?;
         }
-        self.finished(cut, map.to_vec(), &planned.plan, after)
+        let mut made = pool.to_vec();
+        if !arrive(self.calls, &mut made, plan, all(plan), &mut self.chance) || made != left(pool, plan, all(plan)) {
+            return Err("its steps leave other than its stores".into());
+        }
+        self.finished(made, map.to_vec(), plan, after)
     }
 
     /// A cut pool reads as its table, and opens; openings are cut at every store and begun anew.

@@ -3,6 +3,7 @@
 pub mod answers;
 pub mod chance;
 pub mod crash;
+pub mod cuts;
 pub mod differ;
 pub mod exhaust;
 pub mod fenced;

@@ -160,29 +160,29 @@ impl Calls for Library {
     }
 
     fn plan_put(&self, pool: &[u64], map: &[u8], key: u64, value: u64) -> Planned {
-        // SAFETY: both runs are lent with their own lengths, the plan for its 46 words.
+        // SAFETY: both runs are lent with their own lengths, the plan for all its words.
         planned(|plan| unsafe {
             c::wort_plan_put(pool.as_ptr(), pool.len(), map.as_ptr(), map.len(), key, value, plan)
         })
     }
 
     fn plan_delete(&self, pool: &[u64], key: u64) -> Planned {
-        // SAFETY: the pool is lent with its own length, the plan for its 46 words.
+        // SAFETY: the pool is lent with its own length, the plan for all its words.
         planned(|plan| unsafe { c::wort_plan_delete(pool.as_ptr(), pool.len(), key, plan) })
     }
 
     fn plan_open(&self, pool: &[u64]) -> Planned {
-        // SAFETY: the pool is lent with its own length, the plan for its 46 words.
+        // SAFETY: the pool is lent with its own length, the plan for all its words.
         planned(|plan| unsafe { c::wort_plan_open(pool.as_ptr(), pool.len(), plan) })
     }
 
     fn step(&self, pool: &mut [u64], plan: &Plan, at: u64) -> u64 {
-        // SAFETY: the pool is lent with its own length, the plan holds its 46 words.
+        // SAFETY: the pool is lent with its own length, the plan holds all its words.
         unsafe { c::wort_step(pool.as_mut_ptr(), pool.len(), plan.as_ptr(), at) }
     }
 
     fn finish(&self, map: &mut [u8], plan: &Plan) -> u64 {
-        // SAFETY: the map is lent with its own length, the plan holds its 46 words.
+        // SAFETY: the map is lent with its own length, the plan holds all its words.
         unsafe { c::wort_finish(map.as_mut_ptr(), map.len(), plan.as_ptr()) }
     }
 }

@@ -244,19 +244,26 @@ impl Effect {
     }
 }
 
-/// A word number and the value that it takes.
-pub type Store = (usize, u64);
-
-fn plan_of(stores: &[Store], effect: Effect) -> Plan {
+/// 02 (ii): "A plan now carries its stores in groups", "no group is empty".
+fn grouped(groups: [&[Store]; 2], effect: Effect) -> Plan {
+    let stores = groups.concat();
     assert!(stores.len() <= MOST_STORES);
-    let mut plan = NO_PLAN;
-    plan[PLAN_COUNT] = stores.len() as u64;
-    plan[PLAN_EFFECT..PLAN_PLACES].copy_from_slice(&effect.words());
-    for (i, (place, value)) in stores.iter().enumerate() {
-        plan[PLAN_PLACES + i] = *place as u64;
-        plan[PLAN_VALUES + i] = *value;
-    }
+    let first = groups.iter().map(|group| group.len()).find(|length| *length > 0);
+    let mut plan = plan_of(&stores, first.unwrap_or(0));
+    plan[PLAN_EFFECT..=PLAN_NODE].copy_from_slice(&effect.words());
     plan
+}
+
+/// "For a put, everything but the last store, then the last."
+fn put_groups(stores: &[Store]) -> [&[Store]; 2] {
+    let (before, switch) = stores.split_at(stores.len() - 1);
+    [before, switch]
+}
+
+/// "For a delete, the switch, then the header."
+fn delete_groups(stores: &[Store]) -> [&[Store]; 2] {
+    let (switch, header) = stores.split_at(1);
+    [switch, header]
 }
 
 /// A refusal gives a plan that does nothing.
@@ -281,7 +288,8 @@ fn carry_out(pool: &mut [u64], map: &mut [u8], outcome: Result<Plan, u64>) -> Ma
     }
 }
 
-/// "Count over 21, step number not below the count, or its word outside the pool": 5. "One step makes one store."
+/// "Count over 21, step number not below the count, or its word outside the pool": 5. "One step makes one store." What stands in the
+/// words of groups and fences plays no part here, nor in a finish.
 fn make_step(pool: &mut [u64], plan: &Plan, at: u64) -> u64 {
     let count = plan[PLAN_COUNT];
     if count > MOST_STORES as u64 || at >= count {
@@ -379,18 +387,18 @@ fn put_plan(pool: &[u64], map: &[u8], k: u64, v: u64) -> Result<Plan, u64> {
     }
     let (leaves, nodes) = map.split_at(n);
     match fit(pool, n, k).ok_or(DAMAGE)? {
-        Fit::Held(leaf) => Ok(plan_of(&[(value_place(leaf), v)], Effect::Nothing)),
+        Fit::Held(leaf) => Ok(grouped(put_groups(&[(value_place(leaf), v)]), Effect::Nothing)),
         Fit::Empty(place) => {
             let leaf = lowest_free(leaves).ok_or(NO_ROOM)?;
             let mut stores = leaf_stores(leaf, k, v);
             stores.push((place, leaf_reference(leaf)));
-            Ok(plan_of(&stores, Effect::TakesLeaf(leaf)))
+            Ok(grouped(put_groups(&stores), Effect::TakesLeaf(leaf)))
         }
         Fit::Split(split) => {
             let leaf = lowest_free(leaves).ok_or(NO_ROOM)?;
             let node = lowest_free(nodes).ok_or(NO_ROOM)?;
             let stores = split_stores(pool, n, (k, v), (leaf, node), &split);
-            Ok(plan_of(&stores, Effect::TakesLeafAndNode(leaf, n + node)))
+            Ok(grouped(put_groups(&stores), Effect::TakesLeafAndNode(leaf, n + node)))
         }
     }
 }
@@ -435,16 +443,16 @@ fn delete_plan(pool: &[u64], k: u64) -> Result<Plan, u64> {
         Target::Node(_) | Target::Damage => return Err(DAMAGE),
     };
     let Some(parent) = walk.met.last() else {
-        return Ok(plan_of(&[(ROOT, 0)], Effect::FreesLeaf(leaf)));
+        return Ok(grouped(delete_groups(&[(ROOT, 0)]), Effect::FreesLeaf(leaf)));
     };
     let held = children(pool, n, parent.node).iter().filter(|r| **r != 0).count();
     match held {
         0 | 1 => Err(DAMAGE),
         2 => {
             let stores = merge_stores(pool, n, parent, walk.place).ok_or(DAMAGE)?;
-            Ok(plan_of(&stores, Effect::FreesLeafAndNode(leaf, n + parent.node)))
+            Ok(grouped(delete_groups(&stores), Effect::FreesLeafAndNode(leaf, n + parent.node)))
         }
-        _ => Ok(plan_of(&[(walk.place, 0)], Effect::FreesLeaf(leaf))),
+        _ => Ok(grouped(delete_groups(&[(walk.place, 0)]), Effect::FreesLeaf(leaf))),
     }
 }
 
@@ -565,11 +573,11 @@ impl Survey {
     }
 }
 
-/// "A planning call answers the first such store as a plan, or a plan of none."
+/// "A planning call answers the first such store as a plan, or a plan of none." 02 (ii): "Each header open rewrites is a group."
 fn open_plan(pool: &[u64]) -> Result<Plan, u64> {
     let n = capacity(pool).ok_or(SIZE)?;
     let stale = survey(pool).ok_or(DAMAGE)?.stale_stores(pool, n);
-    Ok(plan_of(&stale[..stale.len().min(1)], Effect::Nothing))
+    Ok(grouped([&stale[..stale.len().min(1)], &[]], Effect::Nothing))
 }
 
 // ---- listing ----

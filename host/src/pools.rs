@@ -2,6 +2,7 @@
 
 use crate::answers::*;
 use crate::chance::Chance;
+use crate::cuts::{a_cut, left};
 use crate::model::{child_place, digit, header, header_place, survey, value_place, Model, FIRST_NODE};
 
 const ROOT: usize = 1;
@@ -95,7 +96,7 @@ pub fn sound(chance: &mut Chance, n: usize) -> Made {
     Made { n, pool, map, keys }
 }
 
-/// A sound pool after the first stores of one more put or delete.
+/// A sound pool that a cut of one more put or delete has left.
 pub fn cut(chance: &mut Chance, n: usize) -> Made {
     let mut made = sound(chance, n);
     let key = a_key(chance, &made.keys);
@@ -104,10 +105,7 @@ pub fn cut(chance: &mut Chance, n: usize) -> Made {
     } else {
         Model.plan_delete(&made.pool, key)
     };
-    let stores = chance.below(planned.plan[PLAN_COUNT] as usize + 1);
-    for at in 0..stores {
-        Model.step(&mut made.pool, &planned.plan, at as u64);
-    }
+    made.pool = left(&made.pool, &planned.plan, a_cut(&planned.plan, chance));
     made
 }
 

@@ -1,7 +1,7 @@
 //! A whole call in a child under single steps of the processor (ptrace). The child is a second process in this one's memory:
 //! after every instruction its parent compares the pool, and so sees each store as it is made. For x86-64 alone.
 
-use crate::model::Store;
+use crate::answers::Store;
 use crate::whole::{Answer, Call};
 use crate::Library;
 use std::ffi::{c_int, c_long, c_uint, c_void};

@@ -1,6 +1,7 @@
 //! The plain table from name number to file number, and whether a pool reads as one.
 
 use crate::answers::*;
+use crate::cuts::Arrived;
 use std::collections::BTreeMap;
 
 pub type Table = BTreeMap<u64, u64>;
@@ -38,11 +39,12 @@ impl Operation {
         };
     }
 
-    /// "A put counts from its last store, a delete from its first."
-    pub fn counts(self, made: u64, of: u64) -> bool {
+    /// "A put or delete counts from its switching store": a put's last, a delete's first. A refusal's plan has none.
+    pub fn counts(self, plan: &Plan, arrived: Arrived) -> bool {
+        let count = plan[PLAN_COUNT] as usize;
         match self {
-            Operation::Put(..) => made > 0 && made == of,
-            Operation::Delete(_) => made > 0,
+            Operation::Put(..) => count > 0 && arrived.has(count - 1),
+            Operation::Delete(_) => arrived.has(0),
         }
     }
 }
@@ -65,6 +67,19 @@ pub fn reads_as(calls: &impl Calls, pool: &[u64], table: &Table, keys: &[u64]) -
         }
     }
     lists_as(calls, pool, table, 0, pool[0] as usize)
+}
+
+/// The auditor's question: a name that is listed, and cannot be opened with its file number.
+pub fn listed_not_openable(calls: &impl Calls, pool: &[u64]) -> Option<u64> {
+    let n = pool[0] as usize;
+    let (mut keys, mut values) = (vec![0; n], vec![0; n]);
+    let listed = calls.list(pool, 0, &mut keys, &mut values);
+    let mut entries = keys.iter().zip(&values).take(listed.count as usize);
+    let opens = |key: u64, value: u64| {
+        let found = calls.lookup(pool, key);
+        (found.number, found.value) == (DONE, value)
+    };
+    entries.find(|(key, value)| !opens(**key, **value)).map(|(key, _)| *key)
 }
 
 /// Whether a listing from a key, with buffers of a length, is the table's entries from there.
@@ -98,12 +113,12 @@ pub fn opens_as(calls: &impl Calls, pool: &mut [u64], map: &mut [u8], table: &Ta
     }
 }
 
-/// Makes the first store of an opening that is cut there; false if there is none to make.
+/// Makes the first store of an opening that is cut there; false if there is none to make. "Each header open rewrites is a group."
 pub fn store_of_open(calls: &impl Calls, pool: &mut [u64]) -> Result<bool, String> {
     let planned = calls.plan_open(pool);
-    match (planned.number, planned.plan[PLAN_COUNT]) {
-        (DONE, 0) => Ok(false),
-        (DONE, 1) if calls.step(pool, &planned.plan, 0) == DONE => Ok(true),
+    match (planned.number, planned.plan[PLAN_COUNT], planned.plan[PLAN_FIRST]) {
+        (DONE, 0, 0) => Ok(false),
+        (DONE, 1, 1) if calls.step(pool, &planned.plan, 0) == DONE => Ok(true),
         _ => Err(format!("plan_open: {planned:?}")),
     }
 }

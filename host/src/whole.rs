@@ -5,7 +5,7 @@
 
 use crate::answers::*;
 use crate::chance::Chance;
-use crate::model::{survey, Model, Store};
+use crate::model::{survey, Model};
 use crate::pools::{self, Made};
 
 const ROOT: usize = 1;
@@ -131,11 +131,8 @@ fn long(header: u64) -> bool {
 }
 
 fn listed(planned: &Planned) -> Result<Vec<Store>, u64> {
-    let count = planned.plan[PLAN_COUNT] as usize;
-    let places = planned.plan[PLAN_PLACES..].iter().map(|place| *place as usize);
-    let values = planned.plan[PLAN_VALUES..].iter().copied();
     match planned.number {
-        DONE => Ok(places.zip(values).take(count).collect()),
+        DONE => Ok(stores_of(&planned.plan)),
         number => Err(number),
     }
 }

@@ -1,4 +1,4 @@
-//! Crash runs: sequences of puts and deletes, every cut of each and every cut of the openings behind it.
+//! Crash runs: sequences of puts and deletes, the cuts of each by its groups of stores, and every cut of the openings behind it.
 
 use wort_host::crash::Crash;
 use wort_host::Library;
@@ -21,8 +21,15 @@ fn run(n: usize, sequences: u64, operations: u64) {
 
 #[test]
 fn small_pools() {
-    for n in 1..=8 {
-        run(n, 200, 150);
+    for n in 1..=5 {
+        run(n, 140, 150);
+    }
+}
+
+#[test]
+fn less_small_pools() {
+    for n in 6..=8 {
+        run(n, 140, 150);
     }
 }
 

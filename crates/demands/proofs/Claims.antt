@@ -4,8 +4,9 @@ use Rattle.demands.specs.Claims.{Claims}
 use Rattle.demands.proofs.Demand1.{demand1}
 use Rattle.demands.proofs.Causes.{causes}
 use Rattle.demands.proofs.Demand2.{demand2-holds}
-use Rattle.demands.proofs.Demand3.{demand3-in-order, demand3-loosely, begins}
-use Rattle.demands.proofs.Stales.{one-stale-in-order, one-stale-loosely}
+use Rattle.demands.proofs.Cuts.{in-order-groups}
+use Rattle.demands.proofs.Demand3.{demand3-groups, begins}
+use Rattle.demands.proofs.Stales.{one-stale-groups}
 use Rattle.demands.proofs.Question.{listed-iff-openable}
 use Rattle.demands.proofs.ByPlan.{by-plan}
 use Rattle.demands.proofs.FromC.{returns}
@@ -21,10 +22,9 @@ claims = record {
   demand1 = demand1;
   causes = causes;
   demand2 = demand2-holds;
-  demand3 = demand3-in-order;
-  one-stale = one-stale-in-order;
-  demand3-more = demand3-loosely;
-  one-stale-more = one-stale-loosely;
+  demand3 = demand3-groups;
+  in-order = in-order-groups;
+  one-stale = one-stale-groups;
   question = listed-iff-openable;
   begins = begins;
   by-plan = by-plan;

@@ -14,7 +14,7 @@ use Rattle.pool.specs.declared.Size.{Size}
 use Rattle.pool.specs.declared.Size.the-variants.{Holds, Wrong}
 use Rattle.tree.proofs.Basics.{Same?, same, other, same?}
 use Rattle.tree.proofs.Stores.{Words}
-use Rattle.plan.specs.Plans.{After, after, Decided, storeOf, stepOf, decided, refused, plannedOf}
+use Rattle.plan.specs.Plans.{allButLast, theSwitch, oneGroup, After, after, Decided, storeOf, stepOf, decided, refused, plannedOf}
 use Rattle.finishing.specs.Finishes.{storesOf, finishOf}
 use Rattle.plan.specs.declared.Plan.{Plan}
 use Rattle.plan.specs.declared.Planned.{Planned}
@@ -92,14 +92,14 @@ module _ (l : List ℕ) where
 
 -- ---- planning calls
 -- a plan of what is decided
-module _ (numbers pool : List ℕ) (d : Decided) (few : length (d .stores) ≤ 21) (inside : Words (λ w. w < length pool) (d .stores)) where
-  plans : OneOf numbers (d .number) → ((d .number ≡ 0 → ⊥) → d ≡ refused (d .number)) → {p : Planned} → p ≡ plannedOf d → Plans numbers pool p
+module _ (group : ℕ → ℕ) (empty : group 0 ≡ 0) (numbers pool : List ℕ) (d : Decided) (few : length (d .stores) ≤ 21) (inside : Words (λ w. w < length pool) (d .stores)) where
+  plans : OneOf numbers (d .number) → ((d .number ≡ 0 → ⊥) → d ≡ refused (d .number)) → {p : Planned} → p ≡ plannedOf group d → Plans numbers pool p
   plans o f e = rw e (record {
     number = o;
-    refusal = λ z. ap (λ (x : Decided). plannedOf x .plan) (f z);
+    refusal = λ z. ap (λ (x : Decided). plannedOf group x .plan) (f z) ∙ rw empty;
     most = few;
-    inside = λ i h. rw (plan-word (d .stores) (d .effect) few i) (words-at (λ w. w < length pool) (d .stores) i h inside);
-    unused = plan-unused (d .stores) (d .effect) few;
+    inside = λ i h. rw (plan-word group (d .stores) (d .effect) few i) (words-at (λ w. w < length pool) (d .stores) i h inside);
+    unused = plan-unused group (d .stores) (d .effect) few;
   })
 
 open-plan-refused : (pool : List ℕ) → (openPlan pool .number ≡ 0 → ⊥) → openPlan pool ≡ refused (openPlan pool .number)
@@ -218,13 +218,13 @@ demand1 = record {
   quick = λ pool k a e. rw e (looked (quick-answers pool k));
   list = λ pool from ks vs s e. rw e (shows pool from ks vs (list-answers pool from ks vs));
   plan-put = λ pool map k v p.
-      plans (0 ∷ 1 ∷ 2 ∷ 4 ∷ 7 ∷ []) pool (putPlan pool map k v) (put-few pool map k v) (put-inside pool map k v)
+      plans allButLast refl (0 ∷ 1 ∷ 2 ∷ 4 ∷ 7 ∷ []) pool (putPlan pool map k v) (put-few pool map k v) (put-inside pool map k v)
       (one-of (0 ∷ 1 ∷ 2 ∷ 4 ∷ 7 ∷ []) (putPlan pool map k v .number) (put-number pool map k v)) (put-refusal pool map k v);
   plan-delete = λ pool k p.
-      plans (0 ∷ 1 ∷ 2 ∷ 3 ∷ []) pool (deletePlan pool k) (delete-few pool k) (delete-inside pool k)
+      plans theSwitch refl (0 ∷ 1 ∷ 2 ∷ 3 ∷ []) pool (deletePlan pool k) (delete-few pool k) (delete-inside pool k)
       (one-of (0 ∷ 1 ∷ 2 ∷ 3 ∷ []) (deletePlan pool k .number) (delete-number pool k)) (delete-refusal pool k);
   plan-open = λ pool p.
-      plans (0 ∷ 1 ∷ 2 ∷ []) pool (openPlan pool) (omega (arith, plan-modest pool .one)) (plan-modest pool .inside)
+      plans oneGroup refl (0 ∷ 1 ∷ 2 ∷ []) pool (openPlan pool) (omega (arith, plan-modest pool .one)) (plan-modest pool .inside)
       (up-to-two (openPlan pool .number) (plan-modest pool .number≤)) (open-plan-refused pool);
   put = λ pool map k v l e. rw e (record {
     number = subst (OneOf (0 ∷ 1 ∷ 2 ∷ 4 ∷ 7 ∷ [])) (sym (put-whole-number pool map k v))
@@ -243,5 +243,5 @@ demand1 = record {
   opening = λ pool bytes l e. rw e (opens pool bytes);
   step = λ p at pool a e. rw e (step-stays pool p at);
   finish = λ p map a e. rw e (finish-stays map (p .effect));
-  finish-words = λ words map a e. rw e (pick-stays map (ltb 4 (getD words 1 0)) (refused-stays map) (finish-stays map (planIn words .effect)));
+  finish-words = λ words map a e. rw e (pick-stays map (ltb 4 (getD words 3 0)) (refused-stays map) (finish-stays map (planIn words .effect)));
 }

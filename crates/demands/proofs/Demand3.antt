@@ -25,10 +25,11 @@ use Rattle.writing.proofs.Wholes.{size-same}
 use Rattle.opening.specs.Openings.{Left, openOf, openSteps}
 use Rattle.opening.proofs.HeldOpens.{steps-pool, open-is, all-mended, reached-marked}
 use Rattle.demands.specs.Tables.{Table, blank}
-use Rattle.demands.specs.Demand3.{Op, Cut, planned, InOrder, Loosely, Reach, fresh, existing, done, stepped, refused, cut, lost, reopening, opened, Promised, Demand3, Begins}
+use Rattle.demands.specs.Demand3.{Op, Cut, planned, InGroups, Reach, fresh, existing, done, stepped, refused, cut, lost, reopening, opened, Promised, Demand3, Begins}
 use Rattle.demands.proofs.States.{State}
 use Rattle.demands.proofs.Readings.{state-reads, state-reading, state-capacity, existing-state}
-use Rattle.demands.proofs.Operations.{turns, done-state, stepped-state, refused-state, cut-state, in-order-loosely}
+use Rattle.demands.proofs.Operations.{turns, done-state, stepped-state, refused-state, cut-state}
+use Rattle.demands.proofs.Cuts.{Loosely, groups-loosely}
 
 -- ---- a freshly formatted pool
 -- its root is empty
@@ -149,8 +150,5 @@ module _ (C : Cut) (within : (o : Op) (σ τ : List Store) (b : Bool) → 0 < le
   pub demand3-of : Demand3 C
   demand3-of n pool map T r = promised (reach-state r)
 
-pub demand3-in-order : Demand3 InOrder
-demand3-in-order = demand3-of InOrder (λ o σ τ b. in-order-loosely)
-
-pub demand3-loosely : Demand3 Loosely
-demand3-loosely = demand3-of Loosely (λ o σ τ b many c. c)
+pub demand3-groups : Demand3 InGroups
+demand3-groups = demand3-of InGroups groups-loosely

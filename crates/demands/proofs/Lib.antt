@@ -1,6 +1,7 @@
 pub mod States
 pub mod ByPlan
 pub mod FromC
+pub mod Cuts
 pub mod Operations
 pub mod Readings
 pub mod Cases

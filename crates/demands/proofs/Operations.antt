@@ -37,7 +37,7 @@ use Rattle.rules.proofs.HeldPuts.{PutIs, full, does, put-is, put-retired}
 use Rattle.rules.proofs.HeldDeletes.{DeleteIs, absent, does as deletes, delete-is}
 use Rattle.demands.specs.Tables.{Table, given, without, Names}
 use Rattle.demands.specs.Demand3.{Op, put, delete, planned, whole, byPlan, effect}
-use Rattle.demands.specs.Demand3.{Loosely, put-before, put-whole, delete-before, delete-since, InOrder, first}
+use Rattle.demands.proofs.Cuts.{Loosely, put-before, put-whole, delete-before, delete-since}
 use Rattle.demands.proofs.ByPlan.{put-carried, delete-carried}
 use Rattle.demands.proofs.States.{State, fits, tree-names, stored, finish-marks}
 
@@ -305,16 +305,3 @@ module _ {n : ℕ} {pool bytes : List ℕ} {T : Table} (S : State n pool (some b
   pub cut-state : (o : Op) (z : planned o pool bytes .number ≡ 0) {τ : List Store} {b : Bool} → Loosely o (planned o pool bytes .stores) τ b
       → State n (made τ pool) none (pick b (effect o T) T)
   cut-state o z c = cut-case (λ o τ b. State n (made τ pool) none (pick b (effect o T) T)) cut-before cut-since o z c
-
--- ---- the first stores of a plan are some of them
-pub in-order-loosely : {o : Op} {σ τ : List Store} {b : Bool} → 0 < length σ → InOrder o σ τ b → Loosely o σ τ b
-in-order-loosely {o = put k v h} {σ = σ} many (first n few) = go (same? n (length σ))
-  where
-    go : Same? n (length σ) → Loosely (put k v h) σ (take n σ) (eqb n (length σ))
-    go (same e q) = rw (q, take-all n σ (omega arith)) put-whole
-    go (other e q) =
-        rw q (put-before
-        (subst (λ (l : List Store). Part (take (length σ - 1) σ) l) (take-take n (length σ - 1) σ (omega arith)) (part-take n (take (length σ - 1) σ))))
-in-order-loosely {o = delete k h} {σ = []} many (first n few) = absurd (omega arith)
-in-order-loosely {o = delete k h} {σ = s ∷ σ} many (first zero few) = delete-before
-in-order-loosely {o = delete k h} {σ = s ∷ σ} many (first (suc n) few) = delete-since (part-take n σ)

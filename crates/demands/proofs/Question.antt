@@ -19,10 +19,10 @@ use Rattle.held.specs.Ways.{mem}
 use Rattle.finding.specs.Lookups.{Answer, LookupGives, QuickGives, Finds}
 use Rattle.listing.specs.Rows.{upFrom, shownRows}
 use Rattle.demands.specs.Tables.{Table, Reads}
-use Rattle.demands.specs.Demand3.{Op, Cut, InOrder, Loosely}
+use Rattle.demands.specs.Demand3.{Op, Cut, InGroups}
 use Rattle.demands.specs.Question.{InListing, Openable, ListedIffOpenable}
 use Rattle.demands.proofs.Readings.{state-reads, rows-leaves}
-use Rattle.demands.proofs.Operations.{in-order-loosely}
+use Rattle.demands.proofs.Cuts.{Loosely, groups-loosely}
 use Rattle.demands.proofs.Demand3.{reach-state}
 
 -- ---- rows
@@ -104,5 +104,5 @@ module _ (C : Cut) (within : (o : Op) (σ τ : List Store) (b : Bool) → 0 < le
         (λ o. row .1 (look-row (R .rows) k v (R .written .same k ∙ found .1 o))),
       )
 
-pub listed-iff-openable : ListedIffOpenable InOrder
-listed-iff-openable = listed-iff-openable-of InOrder (λ o σ τ b. in-order-loosely)
+pub listed-iff-openable : ListedIffOpenable InGroups
+listed-iff-openable = listed-iff-openable-of InGroups groups-loosely

@@ -33,10 +33,11 @@ use Rattle.writing.specs.Calls.{Left, formatOf, formatIn}
 use Rattle.opening.specs.Openings.{openOf, openSteps}
 use Rattle.opening.proofs.HeldOpens.{steps-pool, steps-stale}
 use Rattle.demands.specs.Tables.{Table}
-use Rattle.demands.specs.Demand3.{Op, Cut, planned, whole, InOrder, Loosely, AtMostOneStale}
+use Rattle.demands.specs.Demand3.{Op, Cut, planned, whole, InGroups, AtMostOneStale}
 use Rattle.demands.specs.Demand3.{Reach, fresh, existing, done, stepped, refused, cut, lost, reopening, opened}
 use Rattle.demands.proofs.States.{State, fits, stored}
-use Rattle.demands.proofs.Operations.{part-first, part-both, Turns, turns, cut-case, in-order-loosely}
+use Rattle.demands.proofs.Operations.{part-first, part-both, Turns, turns, cut-case}
+use Rattle.demands.proofs.Cuts.{Loosely, groups-loosely}
 use Rattle.demands.proofs.Operations.{whole-number, by-plan-whole, whole-done, whole-refused}
 use Rattle.demands.proofs.Opening.{opens}
 use Rattle.demands.proofs.Demand3.{root-blank, open-state, stores-some, reach-state, promised}
@@ -172,8 +173,5 @@ module _ (C : Cut) (within : (o : Op) (σ τ : List Store) (b : Bool) → 0 < le
   one-stale-of : AtMostOneStale C
   one-stale-of n pool map T r j j′ e e′ = let X = reach-stales r in X .only j e ∙ sym (X .only j′ e′)
 
-pub one-stale-in-order : AtMostOneStale InOrder
-one-stale-in-order = one-stale-of InOrder (λ o σ τ b. in-order-loosely)
-
-pub one-stale-loosely : AtMostOneStale Loosely
-one-stale-loosely = one-stale-of Loosely (λ o σ τ b many c. c)
+pub one-stale-groups : AtMostOneStale InGroups
+one-stale-groups = one-stale-of InGroups groups-loosely

@@ -1,8 +1,9 @@
 -- Plans carried out: "One step makes one store. Finishing changes only the named map bytes. The whole call plans, makes all stores and finishes."
 -- Assumes nothing.
 use mathlib.Core.Path.{_≡_}
+use mathlib.Core.Logic.{_⊎_}
 use mathlib.Core.List.{List}
-use Prim.Native.Nat.{ℕ, zero, suc, _-_, _≤_}
+use Prim.Native.Nat.{ℕ, zero, suc, _+_, _-_, _≤_}
 use lib.ListN.{length, take}
 use Rattle.pool.specs.Sizes.{capacityOf, bytesOf}
 use Rattle.pool.specs.Places.{wordAt}
@@ -38,6 +39,15 @@ carriedOut p pool map =
 abbrev pub Mapped : List ℕ → List ℕ → Type 0
 Mapped pool map = (n : ℕ) → capacityOf pool ≡ Holds n → length map ≡ bytesOf n
 
+-- a plan of one store has one group, and of more everything but the last
+abbrev pub AllButLast : Plan → Type 0
+AllButLast p = (p .first + 1 ≡ p .count) ⊎ ((p .first ≡ 1) × (p .count ≡ 1))
+
+-- a plan of no store has no group; else the first group is not empty, has no more stores than there are, and is as is said
+pub data Grouped (Bound : Type 0) (p : Plan) : Type 0 where
+  none : p .count ≡ 0 → p .first ≡ 0 → Grouped Bound p
+  some : 1 ≤ p .first → p .first ≤ p .count → Bound → Grouped Bound p
+
 pub record ByPlan : Type 0 where
   -- "One step makes one store."
   pub put-steps : (pool map : List ℕ) (k v : ℕ) (p : Planned) → PlanPutGives pool map k v p → StepByStep pool (putPlan pool map k v .stores) p
@@ -51,6 +61,11 @@ pub record ByPlan : Type 0 where
   pub put-finish : (pool map : List ℕ) (k v : ℕ) (p : Planned) (a : After) → PlanPutGives pool map k v p → FinishGives (p .plan) map a → a .number ≡ 0
   pub delete-finish : (pool map : List ℕ) (k : ℕ) (p : Planned) (a : After) → Mapped pool map → PlanDeleteGives pool k p → FinishGives (p .plan) map a
       → a .number ≡ 0
+  -- 02 (ii): "for a put, everything but the last store, then the last; for a delete, the switch, then the header. Each header open rewrites is a group; no
+  -- group is empty."
+  pub put-groups : (pool map : List ℕ) (k v : ℕ) (p : Planned) → PlanPutGives pool map k v p → Grouped (AllButLast (p .plan)) (p .plan)
+  pub delete-groups : (pool : List ℕ) (k : ℕ) (p : Planned) → PlanDeleteGives pool k p → Grouped (p .plan .first ≡ 1) (p .plan)
+  pub open-groups : (pool : List ℕ) (p : Planned) → PlanOpenGives pool p → Grouped ((p .plan .first ≡ 1) × (p .plan .count ≡ 1)) (p .plan)
   -- 1, 3, 20 or 21 stores of a put, the target of a split being what the last store's word referred to; 1 or 2 of a delete, the other child being the
   -- value of the first store
   pub put-count : (pool map : List ℕ) (k v n : ℕ) (p : Planned) → capacityOf pool ≡ Holds n → PlanPutGives pool map k v p → p .number ≡ 0

@@ -5,7 +5,7 @@ use mathlib.Core.Bool.{true}
 use Rattle.demands.specs.Demand1.{Demand1}
 use Rattle.demands.specs.Causes.{Causes}
 use Rattle.demands.specs.Demand2.{Demand2Holds}
-use Rattle.demands.specs.Demand3.{InOrder, Loosely, Demand3, Begins, AtMostOneStale}
+use Rattle.demands.specs.Demand3.{InGroups, InOrder, Within, Demand3, Begins, AtMostOneStale}
 use Rattle.demands.specs.Question.{ListedIffOpenable}
 use Rattle.demands.specs.ByPlan.{ByPlan}
 use Rattle.demands.specs.FromC.{Returns}
@@ -21,13 +21,12 @@ pub record Claims : Type 0 where
   -- "Wrong sizes, damage, an absent name, no room: each has its number": which number, exactly when
   pub causes : Causes
   pub demand2 : Demand2Holds
-  pub demand3 : Demand3 InOrder
-  pub one-stale : AtMostOneStale InOrder
-  -- more than the demand asks: only the store that counts keeps its place
-  pub demand3-more : Demand3 Loosely
-  pub one-stale-more : AtMostOneStale Loosely
+  pub demand3 : Demand3 InGroups
+  -- the order of document 01 is an instance
+  pub in-order : Within InOrder InGroups
+  pub one-stale : AtMostOneStale InGroups
   -- "Is every name in the listing still openable, and is every openable name in the listing?"
-  pub question : ListedIffOpenable InOrder
+  pub question : ListedIffOpenable InGroups
   pub begins : Begins
   pub by-plan : ByPlan
   pub from-c : Returns

@@ -9,7 +9,7 @@ use mathlib.Core.List.{List, [], _∷_}
 use Prim.Native.Nat.{ℕ, _≤_, _<_}
 use lib.ListN.{length, replicate}
 use Rattle.pool.specs.Places.{wordAt}
-use Rattle.plan.specs.Plans.{planOf, After, StepGives}
+use Rattle.plan.specs.Plans.{oneGroup, planOf, After, StepGives}
 use Rattle.finishing.specs.Finishes.{FinishGives}
 use Rattle.plan.specs.declared.Plan.{Plan}
 use Rattle.plan.specs.declared.Planned.{Planned}
@@ -46,7 +46,7 @@ pub record ListSays (ks vs : List ℕ) (s : Shown) : Type 0 where
 -- word is one of the pool's
 pub record Plans (numbers : List ℕ) (pool : List ℕ) (p : Planned) : Type 0 where
   pub number : OneOf numbers (p .number)
-  pub refusal : (p .number ≡ 0 → ⊥) → p .plan ≡ planOf [] Nothing
+  pub refusal : (p .number ≡ 0 → ⊥) → p .plan ≡ planOf oneGroup [] Nothing
   pub most : p .plan .count ≤ 21
   pub inside : (i : ℕ) → i < p .plan .count → wordAt (p .plan .words) i < length pool
   pub unused : (i : ℕ) → p .plan .count ≤ i → (wordAt (p .plan .words) i ≡ 0) × (wordAt (p .plan .values) i ≡ 0)

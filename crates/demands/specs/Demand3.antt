@@ -6,14 +6,14 @@
 use mathlib.Core.Path.{_≡_}
 use mathlib.Core.Bool.{Bool, true, false}
 use mathlib.Core.Option.{Option, none, some}
-use mathlib.Core.List.{List, [], _∷_}
+use mathlib.Core.List.{List, _++_}
 use Prim.Native.Nat.{ℕ, zero, suc, _-_, _*_, _≤_}
 use lib.Dec.{eqb}
-use lib.ListN.{length, take}
+use lib.ListN.{length, take, drop}
 use Rattle.digits.specs.Choice.{pick}
 use Rattle.tree.specs.Stores.{Store, Part}
 use Rattle.pool.specs.Sizes.{bytesOf}
-use Rattle.plan.specs.Plans.{made, Decided, plannedOf}
+use Rattle.plan.specs.Plans.{allButLast, theSwitch, made, Decided, plannedOf}
 use Rattle.rules.specs.Puts.{putPlan}
 use Rattle.rules.specs.Deletes.{deletePlan}
 use Rattle.writing.specs.Calls.{Left, putOf, deleteOf, Formatted, formatOf, FormatGives}
@@ -38,8 +38,13 @@ abbrev pub whole : Op → List ℕ → List ℕ → Left
 whole (put k v h) pool map = putOf pool map k v
 whole (delete k h) pool map = deleteOf pool map k
 
+-- how many of so many stores are the first group of its plan
+abbrev pub firstGroup : Op → ℕ → ℕ
+firstGroup (put k v h) = allButLast
+firstGroup (delete k h) = theSwitch
+
 abbrev pub byPlan : Op → List ℕ → List ℕ → Left
-byPlan o pool map = carriedOut (plannedOf (planned o pool map)) pool map
+byPlan o pool map = carriedOut (plannedOf (firstGroup o) (planned o pool map)) pool map
 
 abbrev pub effect : Op → Table → Table
 effect (put k v h) T = given k v T
@@ -49,23 +54,26 @@ effect (delete k h) T = without k T
 abbrev pub Cut : Type 1
 Cut = Op → List Store → List Store → Bool → Type 0
 
--- "a put counts from its last store, a delete from its first"
+-- 02 (ii): "a put or delete counts from its switching store", of which 01 has: "a put counts from its last store, a delete from its first". Where n of all
+-- stores have arrived: a put's last is among them if all are, for it is a group of its own; a delete's first if any is, for that is its first group.
 abbrev pub counts : Op → ℕ → ℕ → Bool
 counts (put k v h) n all = eqb n all
 counts (delete k h) zero all = false
 counts (delete k h) (suc n) all = true
 
--- "the stores reaching memory in order": a cut leaves the first n of them
+-- 02 (ii): "A cut leaves all earlier groups and any subset of the current one. 'Between its stores' in demand 3 reads so from now on"
+pub data InGroups : Op → List Store → List Store → Bool → Type 0 where
+  in-first : {o : Op} {σ τ : List Store} → Part (take (firstGroup o (length σ)) σ) τ → InGroups o σ τ (counts o (length τ) (length σ))
+  in-second : {o : Op} {σ τ : List Store} → Part (drop (firstGroup o (length σ)) σ) τ
+      → InGroups o σ (take (firstGroup o (length σ)) σ ++ τ) (counts o (length (take (firstGroup o (length σ)) σ ++ τ)) (length σ))
+
+-- 01: "the stores reaching memory in order": a cut leaves the first n of them
 pub data InOrder : Op → List Store → List Store → Bool → Type 0 where
   first : {o : Op} {σ : List Store} (n : ℕ) → n ≤ length σ → InOrder o σ (take n σ) (counts o n (length σ))
 
--- And where only the store that counts is kept in its place: of a put any of all stores but the last, or all; of a delete none, or the first and any
--- of those after it.
-pub data Loosely : Op → List Store → List Store → Bool → Type 0 where
-  put-before : {k v : ℕ} {h : Word k} {σ τ : List Store} → Part (take (length σ - 1) σ) τ → Loosely (put k v h) σ τ false
-  put-whole : {k v : ℕ} {h : Word k} {σ : List Store} → Loosely (put k v h) σ σ true
-  delete-before : {k : ℕ} {h : Word k} {σ : List Store} → Loosely (delete k h) σ [] false
-  delete-since : {k : ℕ} {h : Word k} {s : Store} {σ τ : List Store} → Part σ τ → Loosely (delete k h) (s ∷ σ) (s ∷ τ) true
+-- what one rule of cuts can leave, the other can
+abbrev pub Within : Cut → Cut → Type 0
+Within C C′ = (o : Op) (σ τ : List Store) (b : Bool) → C o σ τ b → C′ o σ τ b
 
 -- a pool of n leaves, its map where there is one, and the plain table of all finished operations and of cut ones that count
 pub data Reach (B : List ℕ → Type 0) (C : Cut) (n : ℕ) : List ℕ → Option (List ℕ) → Table → Type 0 where

@@ -1,9 +1,9 @@
--- A plan from C: what went out as 46 words comes back as the same plan.
+-- A plan from C: what went out as words comes back as the same plan.
 -- Assumes nothing.
 use mathlib.Core.Path.{_≡_}
 use mathlib.Core.List.{List}
 use Prim.Native.Nat.{ℕ}
-use lib.ListN.{length}
+use lib.ListN.{length, set}
 use Rattle.plan.specs.Plans.{After, StepGives}
 use Rattle.plan.specs.declared.Plan.{Plan}
 use Rattle.plan.specs.declared.Planned.{Planned}
@@ -26,6 +26,10 @@ pub record Returns : Type 0 where
   -- what wort_step and wort_finish do with the words is what step and finish do with the plan
   pub step : (p : Plan) → AllPlaces p → (at : ℕ) (pool : List ℕ) (a : After) → StepGives (planIn (wordsOf p)) at pool a → StepGives p at pool a
   pub finish : (p : Plan) (map : List ℕ) (a : After) → FinishInGives (wordsOf p) map a → FinishGives p map a
+  -- neither reads the stores of the first group and the fences, words 1 and 2: whatever stands there, they do the same
+  pub step-unread : (words : List ℕ) (x y at : ℕ) (pool : List ℕ) (a : After)
+      → StepGives (planIn (set (set words 1 x) 2 y)) at pool a → StepGives (planIn words) at pool a
+  pub finish-unread : (words : List ℕ) (x y : ℕ) (map : List ℕ) (a : After) → FinishInGives (set (set words 1 x) 2 y) map a → FinishInGives words map a
   -- what wort_plan_put, wort_plan_delete and wort_plan_open hand out is, taken in again, what plan_put, plan_delete and plan_open promise
   pub put : (pool map : List ℕ) (k v : ℕ) (w : PlannedWords) → HandedOut (PlanPutGives pool map k v) w → PlanPutGives pool map k v (takenIn w)
   pub delete : (pool : List ℕ) (k : ℕ) (w : PlannedWords) → HandedOut (PlanDeleteGives pool k) w → PlanDeleteGives pool k (takenIn w)

@@ -1,5 +1,5 @@
--- Five lists of stores that look right, four in another order and one with a store left out, each made on one small pool up to a cut, after which
--- lookup answers otherwise than the table of names. These are computed cases and say nothing of other pools or cuts; what the right lists leave, in
+-- Seven ways of storing that look right, four in another order, one with a store left out and two in one group, each on one small pool up to a cut, after
+-- which lookup answers otherwise than the table of names. These are computed cases and say nothing of other pools or cuts; what the right lists leave, in
 -- every sound pool and at every cut, the laws of layout say.
 -- Assumes nothing.
 use mathlib.Core.Bool.{Bool, not}
@@ -57,6 +57,10 @@ lastAfter i σ = take i σ ++ drop (length σ - 1) σ ++ drop i (take (length σ
 abbrev pub leftOut : ℕ → List Store → List Store
 leftOut i σ = take i σ ++ drop (i + 1) σ
 
+-- of a list in one group the last store alone has arrived: "any subset of the current one"
+abbrev pub alone : List Store → List Store
+alone σ = drop (length σ - 1) σ
+
 -- A mistake: the pool before the operation, the stores of its plan, what is stored in their stead and how many stores are made before the cut; a name,
 -- what lookup then answers for it, and the table of names that it has to answer as: "a put counts from its last store, a delete from its first".
 pub record Mistake : Type 0 where
@@ -72,7 +76,7 @@ pub record Mistake : Type 0 where
 abbrev pub linkedEarly : Mistake
 linkedEarly = record { start = unused; right = putFrom unused 0x200 1; wrong = lastAfter 0; cut = 1; name = 0; gives = answer 0 0 0; table = blank }
 
--- The five. Name 0x20f, which the last three look up, has file number 3 in the table before the operation and in the one after it.
+-- The seven. Name 0x20f, which the last five look up, has file number 3 in the table before the operation and in the one after it.
 unfoldable pub mistakes : List Mistake
 mistakes =
     linkedEarly
@@ -84,6 +88,10 @@ mistakes =
     ∷ record { start = three; right = putFrom three 0x222 4; wrong = leftOut 19; cut = 21; name = 0x20f; gives = answer 2 0 1; table = fourNames }
     -- a delete that writes the other child's header before the reference: damage
     ∷ record { start = four; right = deleteFrom four 0x222; wrong = lastAfter 0; cut = 1; name = 0x20f; gives = answer 2 0 1; table = without 0x222 fourNames }
+    -- a split in one group, of which the reference has arrived alone: the new node's words are still 0, and a name that is held is not found
+    ∷ record { start = three; right = putFrom three 0x222 4; wrong = alone; cut = 1; name = 0x20f; gives = answer 3 0 1; table = threeNames }
+    -- a delete's two stores in one group, of which the header has arrived alone: damage
+    ∷ record { start = four; right = deleteFrom four 0x222; wrong = alone; cut = 1; name = 0x20f; gives = answer 2 0 1; table = without 0x222 fourNames }
     ∷ []
 
 -- ---- what they come to
@@ -113,7 +121,7 @@ misleads m =
 abbrev pub listed : List ℕ → ℕ
 listed pool = listOf pool 0 (replicate 4 0) (replicate 4 0) .answer .count
 
--- the five tests, and of the first mistake the listing too: one name after the wrong stores, none after the right ones
+-- the seven tests, and of the first mistake the listing too: one name after the wrong stores, none after the right ones
 unfoldable pub shows : List Bool
 shows =
     eqb (listed (wrongly linkedEarly)) 1

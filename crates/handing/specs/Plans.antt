@@ -1,4 +1,4 @@
--- A plan as a run of 46 words, as include/wort.h has it.
+-- A plan as a run of 53 words, as include/wort.h has it.
 -- Assumes nothing.
 use mathlib.Core.Path.{_≡_}
 use mathlib.Core.List.{List, [], _∷_, _++_}
@@ -13,35 +13,43 @@ use Rattle.plan.specs.declared.Planned.{Planned}
 use Rattle.plan.specs.declared.Effect.{Effect}
 use Rattle.plan.specs.declared.Effect.the-variants.{Nothing, TakesLeaf, TakesBoth, FreesLeaf, FreesBoth}
 
--- "effect (0 nothing, 1 takes a leaf, 2 takes a leaf and a node, 3 frees a leaf, 4 frees a leaf and a node), the leaf's map byte, the node's
--- map byte"
+-- "Effects: 0 nothing; 1 takes leaf [4]; 2 takes leaf [4] and node [5]; 3 frees leaf [4]; 4 frees leaf [4] and node [5] (slots by their map byte)"; "4, 5, 6
+-- its data, unused places 0"
 abbrev pub effectWords : Effect → List ℕ
-effectWords Nothing = 0 ∷ 0 ∷ 0 ∷ []
-effectWords (TakesLeaf a) = 1 ∷ a ∷ 0 ∷ []
-effectWords (TakesBoth a b) = 2 ∷ a ∷ b ∷ []
-effectWords (FreesLeaf a) = 3 ∷ a ∷ 0 ∷ []
-effectWords (FreesBoth a b) = 4 ∷ a ∷ b ∷ []
+effectWords Nothing = 0 ∷ 0 ∷ 0 ∷ 0 ∷ []
+effectWords (TakesLeaf a) = 1 ∷ a ∷ 0 ∷ 0 ∷ []
+effectWords (TakesBoth a b) = 2 ∷ a ∷ b ∷ 0 ∷ []
+effectWords (FreesLeaf a) = 3 ∷ a ∷ 0 ∷ 0 ∷ []
+effectWords (FreesBoth a b) = 4 ∷ a ∷ b ∷ 0 ∷ []
 
--- "A plan is a run of 46 words: count, effect .., then 21 word numbers, then 21 values"
+-- "0 count; 1 first: stores of the first group; 2 fences: 0 until (v); 3 effect; 4, 5, 6 its data; 7..29 word numbers, 30..52 values; places for 23 stores, of
+-- which 21 are used ..; unused places 0"
+abbrev pub headWords : Plan → List ℕ
+headWords p = p .count ∷ p .first ∷ 0 ∷ effectWords (p .effect)
+
+abbrev pub spared : List ℕ → List ℕ
+spared l = l ++ 0 ∷ 0 ∷ []
+
 abbrev pub wordsOf : Plan → List ℕ
-wordsOf p = (p .count ∷ effectWords (p .effect)) ++ p .words ++ p .values
+wordsOf p = headWords p ++ spared (p .words) ++ spared (p .values)
 
--- the plan that a run of 46 words says; an effect that has no number is nothing
+-- the plan that a run of 53 words says; an effect that has no number is nothing
 abbrev pub effectOf : ℕ → ℕ → ℕ → Effect
 effectOf e a b =
     pick (eqb e 1) (TakesLeaf a) (pick (eqb e 2) (TakesBoth a b) (pick (eqb e 3) (FreesLeaf a) (pick (eqb e 4) (FreesBoth a b) Nothing)))
 
 abbrev pub planIn : List ℕ → Plan
 planIn l = record {
-  words = take 21 (drop 4 l);
-  values = take 21 (drop 25 l);
+  words = take 21 (drop 7 l);
+  values = take 21 (drop 30 l);
   count = getD l 0 0;
-  effect = effectOf (getD l 1 0) (getD l 2 0) (getD l 3 0);
+  first = getD l 1 0;
+  effect = effectOf (getD l 3 0) (getD l 4 0) (getD l 5 0);
 }
 
 -- finishing by such a run: an effect above 4 names no byte, and is refused with 5
 abbrev pub finishIn : List ℕ → List ℕ → After
-finishIn l bytes = pick (ltb 4 (getD l 1 0)) (after 5 bytes) (finishOf (planIn l .effect) bytes)
+finishIn l bytes = pick (ltb 4 (getD l 3 0)) (after 5 bytes) (finishOf (planIn l .effect) bytes)
 
 -- what finishing by such a run promises
 abbrev pub FinishInGives : List ℕ → List ℕ → After → Type 0

@@ -1,25 +1,47 @@
 // A plan as a run of words, as include/wort.h has it: handed out, and taken in again.
 ghost use mathlib.Core.Path.{_≡_};
 ghost use mathlib.Core.List.{[], _∷_, _++_};
-ghost use lib.ListN.{length, take};
+ghost use lib.ListN.{length, getD, take};
 ghost use lib.Seq.{sets};
-ghost use Rattle.handing.specs.Plans.{effectWords, wordsOf, effectOf, planIn, planned, plannedIn};
+ghost use Rattle.handing.specs.Plans.{effectWords, spared, wordsOf, effectOf, planIn, planned, plannedIn};
 use plan::Effect;
 use plan::Plan;
 use plan::Planned;
 
-// Writes an effect's three words.
-fn lay_words(plan: &mut [u64; 46], kind: u64, leaf: usize, node: usize)
-    ensures { λ _. ⌜ now (plan .exit) ≡ sets (now (plan .entry)) 1 (kind ∷ leaf ∷ node ∷ []) ⌝ }
+// Where a plan's words stand: seven of the head, then so many places for word numbers and as many for values.
+const COUNT: usize = 0;
+
+const FIRST: usize = 1;
+
+const FENCES: usize = 2;
+
+const EFFECT: usize = 3;
+
+const LEAF: usize = 4;
+
+const NODE: usize = 5;
+
+const UNUSED: usize = 6;
+
+const HEAD: usize = 7;
+
+const PLACES: usize = 23;
+
+const VALUES: usize = HEAD + PLACES;
+
+// Writes an effect's four words.
+fn lay_words(plan: &mut [u64; 53], kind: u64, leaf: usize, node: usize)
+    ensures { λ _. ⌜ now (plan .exit) ≡ sets (now (plan .entry)) 3 (kind ∷ leaf ∷ node ∷ 0 ∷ []) ⌝ }
 {
-    plan[1] = kind;
-    plan[2] = leaf as u64;
-    plan[3] = node as u64;
+    plan[EFFECT] = kind;
+    plan[LEAF] = leaf as u64;
+    plan[NODE] = node as u64;
+    plan[UNUSED] = 0;
 }
 
 // Writes an effect.
-fn lay_effect(plan: &mut [u64; 46], effect: Effect)
-    ensures { λ _. ⌜ now (plan .exit) ≡ sets (now (plan .entry)) 1 (effectWords effect) ⌝ }
+fn lay_effect(plan: &mut [u64; 53], effect: Effect)
+    ensures { λ _. ⌜ now (plan .exit) ≡ sets (now (plan .entry)) 3 (effectWords effect) ⌝ }
 {
     match effect {
         Effect::Nothing => lay_words(plan, 0, 0, 0),
@@ -30,43 +52,68 @@ fn lay_effect(plan: &mut [u64; 46], effect: Effect)
     }
 }
 
-// Writes the word numbers and the values, after the first four words.
+// Word number i of a list, 0 past its end.
+fn word_in(words: &[usize], i: usize) -> u64
+    ensures { λ r. ⌜ r ≡ getD (now (words .entry)) i 0 ⌝ }
+{
+    if i < words.len() { words[i] as u64 } else { 0 }
+}
+
+// Value i of a list, 0 past its end.
+fn value_in(values: &[u64], i: usize) -> u64
+    ensures { λ r. ⌜ r ≡ getD (now (values .entry)) i 0 ⌝ }
+{
+    if i < values.len() { values[i] } else { 0 }
+}
+
+// Writes the word numbers and the values, after the head; a place for which there is none becomes 0.
 fn lay_stores(plan: &mut [u64], words: &[usize], values: &[u64])
-    requires { ⌜ (length (now plan) ≡ 46) × (length (now words) ≡ 21) × (length (now values) ≡ 21) ⌝ }
-    ensures { λ _. ⌜ now (plan .exit) ≡ take 4 (now (plan .entry)) ++ now (words .entry) ++ now (values .entry) ⌝ }
+    requires { ⌜ (length (now plan) ≡ 53) × (length (now words) ≡ 21) × (length (now values) ≡ 21) ⌝ }
+    ensures { λ _. ⌜ now (plan .exit) ≡ take 7 (now (plan .entry)) ++ spared (now (words .entry)) ++ spared (now (values .entry)) ⌝ }
 {
     let mut i: usize = 0;
-    while i < Plan::MOST {
-        plan[4 + i] = words[i] as u64;
-        plan[25 + i] = values[i];
+    while i < PLACES {
+        plan[HEAD + i] = word_in(words, i);
+        plan[VALUES + i] = value_in(values, i);
         i += 1;
     }
 }
 
 // Writes a plan, of these parts.
 pub fn lay_plan<'a>(
-    plan: &mut [u64; 46],
+    plan: &mut [u64; 53],
     count: usize,
+    first: usize,
     effect: Effect,
     words: &'a [usize],
     values: &'a [u64],
 )
     requires { ⌜ (length (now words) ≡ 21) × (length (now values) ≡ 21) ⌝ }
-    ensures { λ _. ⌜ now (plan .exit) ≡ wordsOf (record { words = now (words .entry); values = now (values .entry); count = count; effect = effect }) ⌝ }
+    ensures { λ _. ⌜ now (plan .exit) ≡
+        wordsOf (record { words = now (words .entry); values = now (values .entry); count = count; first = first; effect = effect }) ⌝ }
 {
-    plan[0] = count as u64;
+    plan[COUNT] = count as u64;
+    plan[FIRST] = first as u64;
+    plan[FENCES] = 0;
     lay_effect(plan, effect);
     lay_stores(plan, words, values);
 }
 
 // Hands out what a planning call answers.
-pub fn hand_out(plan: &mut [u64; 46], p: Planned) -> u64
+pub fn hand_out(plan: &mut [u64; 53], p: Planned) -> u64
     ensures { λ r. ⌜ planned r (now (plan .exit)) ≡ plannedIn p ⌝ }
 {
     let number = p.number;
     let decided = p.plan;
     let effect = decided.effect;
-    lay_plan(plan, decided.count, effect, &decided.words, &decided.values);
+    lay_plan(
+        plan,
+        decided.count,
+        decided.first,
+        effect,
+        &decided.words,
+        &decided.values,
+    );
     number
 }
 
@@ -89,23 +136,24 @@ fn effect_in(kind: u64, leaf: usize, node: usize) -> Effect
     Effect::Nothing
 }
 
-// The plan that a run of 46 words says.
+// The plan that a run of 53 words says.
 pub fn taken_in(plan: &[u64]) -> Plan
-    requires { ⌜ length (now plan) ≡ 46 ⌝ }
+    requires { ⌜ length (now plan) ≡ 53 ⌝ }
     ensures { λ r. ⌜ r ≡ planIn (now (plan .entry)) ⌝ }
 {
     let mut words = [0usize; 21];
     let mut values = [0u64; 21];
     let mut i: usize = 0;
     while i < Plan::MOST {
-        words[i] = plan[4 + i] as usize;
-        values[i] = plan[25 + i];
+        words[i] = plan[HEAD + i] as usize;
+        values[i] = plan[VALUES + i];
         i += 1;
     }
     Plan {
         words,
         values,
-        count: plan[0] as usize,
-        effect: effect_in(plan[1], plan[2] as usize, plan[3] as usize),
+        count: plan[COUNT] as usize,
+        first: plan[FIRST] as usize,
+        effect: effect_in(plan[EFFECT], plan[LEAF] as usize, plan[NODE] as usize),
     }
 }

@@ -26,7 +26,7 @@ use Rattle.walk.specs.declared.Head.the-variants.{Branch, Wrong as Unaccepted}
 use Rattle.walk.specs.declared.Lowest.{Lowest}
 use Rattle.walk.specs.declared.Lowest.the-variants.{Key, NoKey}
 use Rattle.walk.proofs.Loops.{tally-true, tally-false, tally-le}
-use Rattle.plan.specs.Plans.{made, planOf, plannedOf, refused, storesIn, Ran, ran, makesOf}
+use Rattle.plan.specs.Plans.{oneGroup, made, planOf, plannedOf, refused, storesIn, Ran, ran, makesOf}
 use Rattle.plan.specs.declared.Plan.{Plan}
 use Rattle.plan.specs.declared.Effect.the-variants.{Nothing}
 use Rattle.plan.proofs.Laws.{makes-all}
@@ -179,11 +179,11 @@ module _ (pool : List ℕ) (n : ℕ) {m : List ℕ} {r : Bool} (told : Found m r
   judged : {t : Bool} → r ≡ t → surveyOf pool n .census .sound ≡ t
   judged e = sym (told .judged) ∙ e
 
-  pub plan-refused : not r ≡ true → plannedOf (refused 2) ≡ plannedOf (openJudged pool n (surveyOf pool n))
+  pub plan-refused : not r ≡ true → plannedOf oneGroup (refused 2) ≡ plannedOf oneGroup (openJudged pool n (surveyOf pool n))
   plan-refused h = rw (judged (not-true r h))
 
-  pub plan-first : {p : Plan} → not r ≡ false → p ≡ planOf (mendFirst pool n m) Nothing
-      → record { number = 0; plan = p } ≡ plannedOf (openJudged pool n (surveyOf pool n))
+  pub plan-first : {p : Plan} → not r ≡ false → p ≡ planOf oneGroup (mendFirst pool n m) Nothing
+      → record { number = 0; plan = p } ≡ plannedOf oneGroup (openJudged pool n (surveyOf pool n))
   plan-first h q =
       let e = judged (not-false r h) in
       rw (e, q, told .marked e)
@@ -199,11 +199,11 @@ module _ (pool : List ℕ) (n : ℕ) {m : List ℕ} {r : Bool} (told : Found m r
 
 -- ---- the sizes, by what `capacity` told
 module _ (pool : List ℕ) {x : Size} (is : x ≡ capacityOf pool) where
-  pub plan-wrong : x ≡ Wrong → plannedOf (refused 1) ≡ plannedOf (openPlan pool)
+  pub plan-wrong : x ≡ Wrong → plannedOf oneGroup (refused 1) ≡ plannedOf oneGroup (openPlan pool)
   unfolding openPlan
   plan-wrong e = rw (← is, e)
 
-  pub plan-holds : {n : ℕ} → x ≡ Holds n → plannedOf (openJudged pool n (surveyOf pool n)) ≡ plannedOf (openPlan pool)
+  pub plan-holds : {n : ℕ} → x ≡ Holds n → plannedOf oneGroup (openJudged pool n (surveyOf pool n)) ≡ plannedOf oneGroup (openPlan pool)
   unfolding openPlan
   plan-holds e = rw (← is, e)
 

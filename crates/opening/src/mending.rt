@@ -4,7 +4,7 @@ ghost use mathlib.Core.List.{map as mapped};
 ghost use Prim.Native.Nat.{ℕ, _+_, _-_, _<_, _≤_};
 ghost use lib.ListN.{length, getD, replicate};
 ghost use Rattle.pool.specs.Sizes.{Sized, bytesOf};
-ghost use Rattle.plan.specs.Plans.{planOf, plannedOf};
+ghost use Rattle.plan.specs.Plans.{oneGroup, planOf, plannedOf};
 ghost use Rattle.survey.specs.Surveys.{surveyOf};
 ghost use Rattle.opening.specs.Openings.{depthMarked, stale, mendOf, freshStores, mendFirst, openJudged, PlanOpenGives, mends, mendNode, mended, reached, keysOf, opened, left, restored, leftJudged, OpenGives};
 use digits::Header;
@@ -66,7 +66,7 @@ fn fresh_header(pool: &[u64], n: usize, w: usize, j: usize) -> Fresh
 // The store that mends node j, met at walk depth w, as a plan.
 fn mend_plan(pool: &[u64], n: usize, w: usize, j: usize) -> Plan
     requires { ⌜ Sized (now pool) n × (j + 1 < n) ⌝ }
-    ensures { λ r. ⌜ r ≡ planOf (mendOf (now (pool .entry)) n w j) Effect.Nothing ⌝ }
+    ensures { λ r. ⌜ r ≡ planOf oneGroup (mendOf (now (pool .entry)) n w j) Effect.Nothing ⌝ }
 {
     let Fresh::Header(word) = fresh_header(pool, n, w, j) else {
         return Plan::none(Effect::Nothing);
@@ -77,7 +77,7 @@ fn mend_plan(pool: &[u64], n: usize, w: usize, j: usize) -> Plan
 // The store of the lowest-numbered stale node, as a plan, or a plan of none.
 fn mend_first(pool: &[u64], n: usize, map: &[u8]) -> Plan
     requires { ⌜ Sized (now pool) n × (length (now map) ≡ bytesOf n) ⌝ }
-    ensures { λ r. ⌜ r ≡ planOf (mendFirst (now (pool .entry)) n (now (map .entry))) Effect.Nothing ⌝ }
+    ensures { λ r. ⌜ r ≡ planOf oneGroup (mendFirst (now (pool .entry)) n (now (map .entry))) Effect.Nothing ⌝ }
 {
     let mut j: usize = 0;
     while j + 1 < n {
@@ -92,7 +92,7 @@ fn mend_first(pool: &[u64], n: usize, map: &[u8]) -> Plan
 // The first store that open makes on a pool of n leaves, surveyed into a map that is all 0.
 fn plan_with(pool: &[u64], n: usize, map: &mut [u8]) -> Planned
     requires { ⌜ Sized (now pool) n × (now map ≡ replicate (bytesOf n) 0) ⌝ }
-    ensures { λ r. ⌜ r ≡ plannedOf (openJudged (now (pool .entry)) n (surveyOf (now (pool .entry)) n)) ⌝ }
+    ensures { λ r. ⌜ r ≡ plannedOf oneGroup (openJudged (now (pool .entry)) n (surveyOf (now (pool .entry)) n)) ⌝ }
 {
     if !survey::survey(pool, n, map) {
         return Planned::refused(2);
@@ -106,7 +106,7 @@ fn plan_with(pool: &[u64], n: usize, map: &mut [u8]) -> Planned
 // The same in a part of longer working memory, as long as the pool's map.
 fn plan_within(pool: &[u64], n: usize, scratch: &mut [u8]) -> Planned
     requires { ⌜ Sized (now pool) n × (now scratch ≡ replicate 2047 0) ⌝ }
-    ensures { λ r. ⌜ r ≡ plannedOf (openJudged (now (pool .entry)) n (surveyOf (now (pool .entry)) n)) ⌝ }
+    ensures { λ r. ⌜ r ≡ plannedOf oneGroup (openJudged (now (pool .entry)) n (surveyOf (now (pool .entry)) n)) ⌝ }
 {
     let bytes = 2 * n - 1;
     plan_with(pool, n, &mut scratch[0..bytes])

@@ -6,14 +6,14 @@ use Prim.Native.Nat.{ℕ}
 use Rattle.tree.specs.Stores.{Store}
 use Rattle.plan.specs.declared.Plan.{Plan}
 use Rattle.plan.specs.declared.Effect.the-variants.{TakesLeaf}
-use Rattle.plan.specs.Plans.{planOf, after, stepOf, storesIn, ran, makesOf, runOf}
+use Rattle.plan.specs.Plans.{allButLast, planOf, after, stepOf, storesIn, ran, makesOf, runOf}
 
--- two stores, word 3 := 40 and then word 1 := 2, that take byte 0 of the map
+-- two stores, word 3 := 40 and then word 1 := 2, each a group, that take byte 0 of the map
 stores : List Store
 stores = record { word = 3; value = 40 } ∷ record { word = 1; value = 2 } ∷ []
 
 two : Plan
-two = planOf stores (TakesLeaf 0)
+two = planOf allButLast stores (TakesLeaf 0)
 
 pool : List ℕ
 pool = 9 ∷ 9 ∷ 9 ∷ 9 ∷ []
@@ -25,6 +25,7 @@ laid-out :
       words = 3 ∷ 1 ∷ 0 ∷ 0 ∷ 0 ∷ 0 ∷ 0 ∷ 0 ∷ 0 ∷ 0 ∷ 0 ∷ 0 ∷ 0 ∷ 0 ∷ 0 ∷ 0 ∷ 0 ∷ 0 ∷ 0 ∷ 0 ∷ 0 ∷ [];
       values = 40 ∷ 2 ∷ 0 ∷ 0 ∷ 0 ∷ 0 ∷ 0 ∷ 0 ∷ 0 ∷ 0 ∷ 0 ∷ 0 ∷ 0 ∷ 0 ∷ 0 ∷ 0 ∷ 0 ∷ 0 ∷ 0 ∷ 0 ∷ 0 ∷ [];
       count = 2;
+      first = 1;
       effect = TakesLeaf 0;
     }
 unfolding two stores
@@ -47,7 +48,7 @@ word-outside : stepOf two 0 (9 ∷ 9 ∷ 9 ∷ []) ≡ after 5 (9 ∷ 9 ∷ 9 �
 unfolding two stores stepOf
 word-outside = refl
 
-count-over : stepOf (record { words = two .words; values = two .values; count = 22; effect = two .effect }) 0 pool ≡ after 5 pool
+count-over : stepOf (record { words = two .words; values = two .values; count = 22; first = two .first; effect = two .effect }) 0 pool ≡ after 5 pool
 unfolding two stores pool stepOf
 count-over = refl
 

@@ -72,8 +72,8 @@ padded-at (suc n) m (x ∷ l) zero d few = refl
 padded-at (suc n) m (x ∷ l) (suc i) d few = padded-at n m l i d (le-of-suc-le-suc few)
 
 -- 21 of them
-pub plan-places : (σ : List Store) (e : Effect) → (length (planOf σ e .words) ≡ 21) × (length (planOf σ e .values) ≡ 21)
-plan-places σ e = (places (map (λ s. s .word) σ), places (map (λ s. s .value) σ))
+pub plan-places : (group : ℕ → ℕ) (σ : List Store) (e : Effect) → (length (planOf group σ e .words) ≡ 21) × (length (planOf group σ e .values) ≡ 21)
+plan-places group σ e = (places (map (λ s. s .word) σ), places (map (λ s. s .value) σ))
   where
     places : (l : List ℕ) → length (take 21 (l ++ replicate 21 0)) ≡ 21
     places l = simp (length-take, length-append) (omega (arith, length-replicate {A = ℕ} 21 0))
@@ -199,31 +199,31 @@ module _ (ws vs : List ℕ) (n i : ℕ) (l : List ℕ) where
         (λ s. turned s ∙ rw (add-zero i) (ap (λ (x : After). ran i (x .left)) (sym (gave ∙ s)))) (store-either (getD ws i 0) (getD vs i 0) l)
 
 -- ---- a step and a run of a plan of at most 21 stores
-module _ (σ : List Store) (e : Effect) (few : length σ ≤ 21) where
+module _ (group : ℕ → ℕ) (σ : List Store) (e : Effect) (few : length σ ≤ 21) where
   place-at : (f : Store → ℕ) (i : ℕ) → getD (take 21 (map f σ ++ replicate 21 (f unused))) i (f unused) ≡ f (getD σ i unused)
   place-at f i = padded-at 21 21 (map f σ) i (f unused) (rw (length-map σ f) few) ∙ List·getD-map f σ i unused
 
   -- place i of the plan holds store i; unused places 0
-  pub plan-word : (i : ℕ) → getD (planOf σ e .words) i 0 ≡ getD σ i unused .word
+  pub plan-word : (i : ℕ) → getD (planOf group σ e .words) i 0 ≡ getD σ i unused .word
   plan-word i = place-at (λ s. s .word) i
 
-  pub plan-value : (i : ℕ) → getD (planOf σ e .values) i 0 ≡ getD σ i unused .value
+  pub plan-value : (i : ℕ) → getD (planOf group σ e .values) i 0 ≡ getD σ i unused .value
   plan-value i = place-at (λ s. s .value) i
 
   -- "unused places 0"
-  pub plan-unused : (i : ℕ) → length σ ≤ i → (getD (planOf σ e .words) i 0 ≡ 0) × (getD (planOf σ e .values) i 0 ≡ 0)
+  pub plan-unused : (i : ℕ) → length σ ≤ i → (getD (planOf group σ e .words) i 0 ≡ 0) × (getD (planOf group σ e .values) i 0 ≡ 0)
   plan-unused i h =
       let u = List·getD-eq-default σ unused h in
       (plan-word i ∙ ap (λ (s : Store). s .word) u, plan-value i ∙ ap (λ (s : Store). s .value) u)
 
   -- a step at or past the count is refused
-  pub step-past : (i : ℕ) (pool : List ℕ) → length σ ≤ i → stepOf (planOf σ e) i pool ≡ after 5 pool
+  pub step-past : (i : ℕ) (pool : List ℕ) → length σ ≤ i → stepOf (planOf group σ e) i pool ≡ after 5 pool
   unfolding stepOf
   step-past i pool h = rw (le-ltb 21 (length σ) few, le-leb (length σ) i h)
 
   -- a step makes its store
   pub step-made : (pool : List ℕ) → Words (λ w. w < length pool) σ → (i : ℕ) → i < length σ
-      → stepOf (planOf σ e) i pool ≡ after 0 (set pool (getD σ i unused .word) (getD σ i unused .value))
+      → stepOf (planOf group σ e) i pool ≡ after 0 (set pool (getD σ i unused .word) (getD σ i unused .value))
   unfolding stepOf
   step-made pool inside i h =
       rw (
@@ -237,14 +237,14 @@ module _ (σ : List Store) (e : Effect) (few : length σ ≤ 21) where
 
   module _ (pool : List ℕ) (inside : Words (λ w. w < length pool) σ) where
     -- after the stores before it, a step makes the next
-    pub step-after : (i : ℕ) → i < length σ → stepOf (planOf σ e) i (made (take i σ) pool) ≡ after 0 (made (take (i + 1) σ) pool)
+    pub step-after : (i : ℕ) → i < length σ → stepOf (planOf group σ e) i (made (take i σ) pool) ≡ after 0 (made (take (i + 1) σ) pool)
     step-after i h =
         let l = made (take i σ) pool in
         step-made l (words-more (λ w. w < length pool) (λ w. w < length l) σ (λ w b. omega (arith, length-made (take i σ) pool)) inside) i h
         ∙ ap (after 0) (sym (made-next σ i pool h))
 
   -- its steps make its stores
-  pub plan-stores : storesOf (planOf σ e) ≡ σ
+  pub plan-stores : storesOf (planOf group σ e) ≡ σ
   plan-stores =
       rw (le-ltb 21 (length σ) few, places (λ s. s .word), places (λ s. s .value))
       (stores-first σ (take (21 - length σ) (replicate 21 0)) (take (21 - length σ) (replicate 21 0)))
@@ -256,11 +256,11 @@ module _ (σ : List Store) (e : Effect) (few : length σ ≤ 21) where
 
   module _ (pool : List ℕ) (inside : Words (λ w. w < length pool) σ) where
     -- a run makes the stores in their order, and says how many
-    pub run-made : (n : ℕ) → runOf n (planOf σ e) pool ≡ ran (min n (length σ)) (made (take n σ) pool)
+    pub run-made : (n : ℕ) → runOf n (planOf group σ e) pool ≡ ran (min n (length σ)) (made (take n σ) pool)
     run-made n = rw plan-stores (makes-made n σ pool inside)
 
     -- a run of as many steps as there are stores, or more, makes them all
-    pub run-whole : (n : ℕ) → length σ ≤ n → runOf n (planOf σ e) pool ≡ ran (length σ) (made σ pool)
+    pub run-whole : (n : ℕ) → length σ ≤ n → runOf n (planOf group σ e) pool ≡ ran (length σ) (made σ pool)
     run-whole n h = rw plan-stores (makes-all n σ pool h inside)
 
 -- ---- a run of any plan

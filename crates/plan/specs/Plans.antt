@@ -3,7 +3,7 @@
 use mathlib.Core.Path.{_≡_}
 use mathlib.Core.Bool.{true, false}
 use mathlib.Core.List.{List, [], _∷_, _++_, map}
-use Prim.Native.Nat.{ℕ, zero, suc, _+_}
+use Prim.Native.Nat.{ℕ, zero, suc, _+_, _-_}
 use lib.Dec.{eqb, leb, ltb}
 use lib.ListN.{length, getD, set, take, replicate}
 use Rattle.digits.specs.Choice.{pick}
@@ -22,11 +22,25 @@ made (s ∷ σ) l = made σ (set l (s .word) (s .value))
 abbrev pub padded : List ℕ → List ℕ
 padded l = take 21 (l ++ replicate 21 0)
 
-abbrev pub planOf : List Store → Effect → Plan
-planOf σ e = record {
+-- 02 (ii): "A plan now carries its stores in groups": how many of so many stores are the first group; the others are the second, if there are any.
+-- "for a put, everything but the last store, then the last; for a delete, the switch, then the header. Each header open rewrites is a group; no group is
+-- empty."
+abbrev pub allButLast : ℕ → ℕ
+allButLast c = pick (ltb 1 c) (c - 1) c
+
+abbrev pub theSwitch : ℕ → ℕ
+theSwitch c = pick (ltb 1 c) 1 c
+
+abbrev pub oneGroup : ℕ → ℕ
+oneGroup c = c
+
+-- the plan of these stores, grouped so
+abbrev pub planOf : (ℕ → ℕ) → List Store → Effect → Plan
+planOf group σ e = record {
   words = padded (map (λ (s : Store). s .word) σ);
   values = padded (map (λ (s : Store). s .value) σ);
   count = length σ;
+  first = group (length σ);
   effect = e;
 }
 
@@ -43,8 +57,8 @@ decided σ e = record { number = 0; stores = σ; effect = e }
 abbrev pub refused : ℕ → Decided
 refused k = record { number = k; stores = []; effect = Nothing }
 
-abbrev pub plannedOf : Decided → Planned
-plannedOf d = record { number = d .number; plan = planOf (d .stores) (d .effect) }
+abbrev pub plannedOf : (ℕ → ℕ) → Decided → Planned
+plannedOf group d = record { number = d .number; plan = planOf group (d .stores) (d .effect) }
 
 -- the number given back, and the words or bytes after the call
 pub record After : Type 0 where

@@ -3,7 +3,7 @@ ghost use mathlib.Core.Path.{_≡_};
 ghost use mathlib.Core.List.{[], _∷_};
 ghost use Prim.Native.Nat.{_≤_, min};
 ghost use lib.ListN.{length};
-ghost use Rattle.plan.specs.Plans.{planOf, refused, plannedOf, after, storeOf, stepOf, StepGives, ran, storesIn, makesOf, RunGives};
+ghost use Rattle.plan.specs.Plans.{allButLast, theSwitch, oneGroup, planOf, refused, plannedOf, after, storeOf, stepOf, StepGives, ran, storesIn, makesOf, RunGives};
 
 // What a plan does to the map. Slots are named by their byte number in the map.
 pub enum Effect {
@@ -14,11 +14,13 @@ pub enum Effect {
     FreesBoth(usize, usize),
 }
 
-// At most 21 stores, each a word number and a value; unused places are 0.
+// At most 21 stores, each a word number and a value; unused places are 0. They are in groups, `first` of them in the first and the others, if
+// there are any, in the second. A step reads no group: they say where the caller's fences go.
 pub struct Plan {
     pub words: [usize; 21],
     pub values: [u64; 21],
     pub count: usize,
+    pub first: usize,
     pub effect: Effect,
 }
 
@@ -32,21 +34,36 @@ impl Plan {
     // Stores of a plan, at most.
     pub const MOST: usize = 21;
 
-    // A plan of no stores, with this effect.
+    // The stores of a put's first group, of so many: everything but the last.
+    pub fn all_but_last(count: usize) -> usize
+        ensures { λ r. ⌜ r ≡ allButLast count ⌝ }
+    {
+        if 1 < count { count - 1 } else { count }
+    }
+
+    // The stores of a delete's first group, of so many: the switch.
+    pub fn the_switch(count: usize) -> usize
+        ensures { λ r. ⌜ r ≡ theSwitch count ⌝ }
+    {
+        if 1 < count { 1 } else { count }
+    }
+
+    // A plan of no stores, and so of no group, with this effect.
     pub fn none(effect: Effect) -> Plan
-        ensures { λ r. ⌜ r ≡ planOf [] effect ⌝ }
+        ensures { λ r. ⌜ r ≡ planOf oneGroup [] effect ⌝ }
     {
         Plan {
             words: [0; 21],
             values: [0; 21],
             count: 0,
+            first: 0,
             effect,
         }
     }
 
-    // A plan of one store.
+    // A plan of one store, which is a group.
     pub fn one(word: usize, value: u64, effect: Effect) -> Plan
-        ensures { λ r. ⌜ r ≡ planOf (record { word = word; value = value } ∷ []) effect ⌝ }
+        ensures { λ r. ⌜ r ≡ planOf oneGroup (record { word = word; value = value } ∷ []) effect ⌝ }
     {
         let mut words = [0usize; 21];
         let mut values = [0u64; 21];
@@ -56,6 +73,7 @@ impl Plan {
             words,
             values,
             count: 1,
+            first: 1,
             effect,
         }
     }
@@ -64,7 +82,7 @@ impl Plan {
 impl Planned {
     // A refusal, with a plan that does nothing.
     pub fn refused(number: u64) -> Planned
-        ensures { λ r. ⌜ r ≡ plannedOf (refused number) ⌝ }
+        ensures { λ r. ⌜ r ≡ plannedOf oneGroup (refused number) ⌝ }
     {
         Planned {
             number,

@@ -37,13 +37,17 @@ filled l h =
     sets-eq l (replicate 21 0) 0 (rw (zero-add (length l)) h)
     ∙ rw (zero-add (length l), zeros (length l) 21 h) (sym (rw n at (take-append-add l (replicate 21 0) (21 - length l))))
 
-module _ {ws vs : List ℕ} (blank : Blank ws vs) where
+-- so many places are there
+pub blank-holding : {ws vs : List ℕ} → Blank ws vs → (k : ℕ) → k ≤ 21 → Holding k ws vs
+blank-holding blank k h = rw (blank .0, blank .1) (h, h)
+
+module _ (group : ℕ → ℕ) {ws vs : List ℕ} (blank : Blank ws vs) where
   -- a refusal lays out nothing
-  pub gathered-none : {k : ℕ} {l : Laid} → l ≡ laidOf (refused k) → gathered l ws vs ≡ plannedOf (refused k)
+  pub gathered-none : {k : ℕ} {l : Laid} → l ≡ laidOf (refused k) → gathered group l ws vs ≡ plannedOf group (refused k)
   gathered-none e = rw (e, blank .0, blank .1)
 
   pub gathered-laid : {σ : List Store} {r : ℕ} {ws′ vs′ : List ℕ} (e : Effect) → length σ ≤ 21 → Lays 0 σ ws vs r ws′ vs′
-      → gathered (record { number = 0; count = r; effect = e }) ws′ vs′ ≡ plannedOf (decided σ e)
+      → gathered group (record { number = 0; count = r; effect = e }) ws′ vs′ ≡ plannedOf group (decided σ e)
   gathered-laid {σ} {r} {ws′} {vs′} e few a =
       let n : r ≡ length σ = a .place ∙ zero-add (length σ) in
       let w : ws′ ≡ padded (map (λ (s : Store). s .word) σ) =
@@ -51,7 +55,3 @@ module _ {ws vs : List ℕ} (blank : Blank ws vs) where
       let v : vs′ ≡ padded (map (λ (s : Store). s .value) σ) =
       a .values ∙ rw (blank .1) (filled (map (λ (s : Store). s .value) σ) (rw (length-map σ (λ (s : Store). s .value)) few)) in
       rw (n, w, v)
-
-  -- so many places are there
-  pub blank-holding : (k : ℕ) → k ≤ 21 → Holding k ws vs
-  blank-holding k h = rw (blank .0, blank .1) (h, h)

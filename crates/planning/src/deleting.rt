@@ -1,6 +1,6 @@
 // Planning a delete.
 ghost use mathlib.Core.Path.{_≡_};
-ghost use Rattle.plan.specs.Plans.{plannedOf};
+ghost use Rattle.plan.specs.Plans.{theSwitch, plannedOf};
 ghost use Rattle.removing.specs.Removals.{decidedBy};
 ghost use Rattle.rules.specs.Deletes.{deletePlan, PlanDeleteGives};
 ghost use Rattle.planning.specs.Gathered.{Blank, gathered};
@@ -15,7 +15,7 @@ use removing::find_removal;
 // A removal's stores.
 fn lay_removal(words: &mut [usize], values: &mut [u64], r: Removal) -> Laid
     requires { ⌜ Blank (now words) (now values) ⌝ }
-    ensures { λ l. ⌜ gathered l (now (words .exit)) (now (values .exit)) ≡ plannedOf (decidedBy r) ⌝ }
+    ensures { λ l. ⌜ gathered theSwitch l (now (words .exit)) (now (values .exit)) ≡ plannedOf theSwitch (decidedBy r) ⌝ }
 {
     match r {
         Removal::Refused(number) => Laid::refused(number),
@@ -49,7 +49,7 @@ fn lay_removal(words: &mut [usize], values: &mut [u64], r: Removal) -> Laid
 // What a delete stores, in order, laid out in two lists of 21 places that are all 0.
 fn lay_delete(words: &mut [usize], values: &mut [u64], pool: &[u64], key: u64) -> Laid
     requires { ⌜ Blank (now words) (now values) ⌝ }
-    ensures { λ r. ⌜ gathered r (now (words .exit)) (now (values .exit)) ≡ plannedOf (deletePlan (now (pool .entry)) key) ⌝ }
+    ensures { λ r. ⌜ gathered theSwitch r (now (words .exit)) (now (values .exit)) ≡ plannedOf theSwitch (deletePlan (now (pool .entry)) key) ⌝ }
 {
     let Size::Holds(n) = pool::capacity(pool) else {
         return Laid::refused(1);
@@ -72,6 +72,7 @@ pub fn plan_delete(pool: &[u64], key: u64) -> Planned
             words,
             values,
             count,
+            first: Plan::the_switch(count),
             effect,
         },
     }

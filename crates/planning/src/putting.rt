@@ -3,7 +3,7 @@ ghost use mathlib.Core.Path.{_≡_};
 ghost use Prim.Native.Nat.{_≤_};
 ghost use lib.ListN.{length};
 ghost use Rattle.pool.specs.Sizes.{bytesOf};
-ghost use Rattle.plan.specs.Plans.{plannedOf};
+ghost use Rattle.plan.specs.Plans.{allButLast, plannedOf};
 ghost use Rattle.rules.specs.Puts.{Splits, growOf, splitOf, putPlan, PlanPutGives};
 ghost use Rattle.placing.specs.Leads.{planAt, Able};
 ghost use Rattle.laying.specs.Lays.{Cloven};
@@ -32,7 +32,7 @@ fn lay_grow(
     at: usize,
 ) -> Laid
     requires { ⌜ Blank (now words) (now values) × (n ≤ 1024) × (length (now map) ≡ bytesOf n) × (1 ≤ n) ⌝ }
-    ensures { λ r. ⌜ gathered r (now (words .exit)) (now (values .exit)) ≡ plannedOf (growOf (now (map .entry)) n key value at) ⌝ }
+    ensures { λ r. ⌜ gathered allButLast r (now (words .exit)) (now (values .exit)) ≡ plannedOf allButLast (growOf (now (map .entry)) n key value at) ⌝ }
 {
     let leaf = lowest_free(map, 0, n);
     if n <= leaf {
@@ -58,7 +58,7 @@ fn lay_split(
     target: Target,
 ) -> Laid
     requires { ⌜ Blank (now words) (now values) × (n ≤ 1024) × (length (now map) ≡ bytesOf n) × (1 ≤ n) × Cloven s × Splits n s target ⌝ }
-    ensures { λ r. ⌜ gathered r (now (words .exit)) (now (values .exit)) ≡ plannedOf (splitOf (now (map .entry)) n s key value target) ⌝ }
+    ensures { λ r. ⌜ gathered allButLast r (now (words .exit)) (now (values .exit)) ≡ plannedOf allButLast (splitOf (now (map .entry)) n s key value target) ⌝ }
 {
     let Room::Slots(leaf, byte) = find_room(map, n) else {
         return Laid::refused(4);
@@ -82,7 +82,7 @@ fn lay_at(
     place: Place,
 ) -> Laid
     requires { ⌜ Blank (now words) (now values) × (1 ≤ n) × (n ≤ 1024) × (length (now map) ≡ bytesOf n) × Able n place ⌝ }
-    ensures { λ r. ⌜ gathered r (now (words .exit)) (now (values .exit)) ≡ plannedOf (planAt (now (map .entry)) n key value place) ⌝ }
+    ensures { λ r. ⌜ gathered allButLast r (now (words .exit)) (now (values .exit)) ≡ plannedOf allButLast (planAt (now (map .entry)) n key value place) ⌝ }
 {
     match place {
         Place::Held(i) => {
@@ -109,7 +109,7 @@ pub fn lay_put(
     value: u64,
 ) -> Laid
     requires { ⌜ Blank (now words) (now values) ⌝ }
-    ensures { λ r. ⌜ gathered r (now (words .exit)) (now (values .exit)) ≡ plannedOf (putPlan (now (pool .entry)) (now (map .entry)) key value) ⌝ }
+    ensures { λ r. ⌜ gathered allButLast r (now (words .exit)) (now (values .exit)) ≡ plannedOf allButLast (putPlan (now (pool .entry)) (now (map .entry)) key value) ⌝ }
 {
     let Size::Holds(n) = pool::capacity(pool) else {
         return Laid::refused(1);
@@ -143,6 +143,7 @@ pub fn plan_put(pool: &[u64], map: &[u8], key: u64, value: u64) -> Planned
             words,
             values,
             count,
+            first: Plan::all_but_last(count),
             effect,
         },
     }

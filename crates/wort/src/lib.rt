@@ -128,7 +128,7 @@ pub extern "C" fn wort_plan_put(
     map: &[u8],
     key: u64,
     value: u64,
-    plan: &mut [u64; 46],
+    plan: &mut [u64; 53],
 ) -> u64
     ensures { λ r. ⌜ HandedOut (PlanPutGives (now (pool .entry)) (now (map .entry)) key value) (planned r (now (plan .exit))) ⌝ }
 {
@@ -136,12 +136,19 @@ pub extern "C" fn wort_plan_put(
     let mut values = [0u64; Plan::MOST];
     let laid = planning::lay_put(&mut words, &mut values, pool, map, key, value);
     let effect = laid.effect;
-    lay_plan(plan, laid.count, effect, &words, &values);
+    lay_plan(
+        plan,
+        laid.count,
+        Plan::all_but_last(laid.count),
+        effect,
+        &words,
+        &values,
+    );
     laid.number
 }
 
 #[no_mangle]
-pub extern "C" fn wort_plan_delete(pool: &[u64], key: u64, plan: &mut [u64; 46]) -> u64
+pub extern "C" fn wort_plan_delete(pool: &[u64], key: u64, plan: &mut [u64; 53]) -> u64
     ensures { λ r. ⌜ HandedOut (PlanDeleteGives (now (pool .entry)) key) (planned r (now (plan .exit))) ⌝ }
 {
     let p = planning::plan_delete(pool, key);
@@ -149,7 +156,7 @@ pub extern "C" fn wort_plan_delete(pool: &[u64], key: u64, plan: &mut [u64; 46])
 }
 
 #[no_mangle]
-pub extern "C" fn wort_plan_open(pool: &[u64], plan: &mut [u64; 46]) -> u64
+pub extern "C" fn wort_plan_open(pool: &[u64], plan: &mut [u64; 53]) -> u64
     ensures { λ r. ⌜ HandedOut (PlanOpenGives (now (pool .entry))) (planned r (now (plan .exit))) ⌝ }
 {
     let p = opening::plan_open(pool);
@@ -157,17 +164,17 @@ pub extern "C" fn wort_plan_open(pool: &[u64], plan: &mut [u64; 46]) -> u64
 }
 
 #[no_mangle]
-pub extern "C" fn wort_step(pool: &mut [u64], plan: &[u64; 46], at: u64) -> u64
+pub extern "C" fn wort_step(pool: &mut [u64], plan: &[u64; 53], at: u64) -> u64
     ensures { λ r. ⌜ StepGives (planIn (now (plan .entry))) at (now (pool .entry)) (after r (now (pool .exit))) ⌝ }
 {
     plan::step(pool, taken_in(plan), at as usize)
 }
 
 #[no_mangle]
-pub extern "C" fn wort_finish(map: &mut [u8], plan: &[u64; 46]) -> u64
+pub extern "C" fn wort_finish(map: &mut [u8], plan: &[u64; 53]) -> u64
     ensures { λ r. ⌜ FinishInGives (now (plan .entry)) (now (map .entry)) (after r (now (map .exit))) ⌝ }
 {
-    if 4 < plan[1] {
+    if 4 < plan[3] {
         return 5;
     }
     finishing::finish(map, taken_in(plan))

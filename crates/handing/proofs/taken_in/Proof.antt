@@ -10,7 +10,7 @@ use Rattle.handing.proofs.taken_in.Statement.{statement}
 use Rattle.handing.proofs.taken_in.Tie as tie
 
 abbrev Inv-loop : tie.InvT-loop
-Inv-loop plan words₀ values₀ i₀ words values i = (i ≤ 21) × (words ≡ copied i (drop 4 plan) words₀) × (values ≡ copied i (drop 25 plan) values₀)
+Inv-loop plan words₀ values₀ i₀ words values i = (i ≤ 21) × (words ≡ copied i (drop 7 plan) words₀) × (values ≡ copied i (drop 30 plan) values₀)
 
 abbrev μ-loop : tie.MeasureT-loop
 μ-loop plan words₀ values₀ i₀ words values i = 21 - i
@@ -59,12 +59,15 @@ loop-again c =
     let at = c .before .before .before in
     let p : List ℕ = c .before .before .before .before .before .args .plan .now in (
       omega arith,
-      rw (at .loop .inv .1) (taken-next 4 (at .loop .i) p (replicate 21 0) (omega arith) (omega arith)),
-      rw (at .loop .inv .2) (taken-next 25 (at .loop .i) p (replicate 21 0) (omega arith) (omega arith)),
+      rw (at .loop .inv .1) (taken-next 7 (at .loop .i) p (replicate 21 0) (omega arith) (omega arith)),
+      rw (at .loop .inv .2) (taken-next 30 (at .loop .i) p (replicate 21 0) (omega arith) (omega arith)),
     )
 
 shared-slice-read-t20 : tie.Need-shared-slice-read-t20 Inv-loop μ-loop
 shared-slice-read-t20 c = search needs
+
+shared-slice-read-t23 : tie.Need-shared-slice-read-t23 Inv-loop μ-loop
+shared-slice-read-t23 c = search needs
 
 shared-slice-read-effect-in : tie.Need-shared-slice-read-effect-in Inv-loop μ-loop
 shared-slice-read-effect-in c = search needs
@@ -80,10 +83,10 @@ effect-in-requires c κs = search needs
 
 returns : tie.Need-returns Inv-loop μ-loop
 returns c =
-    let at = c .before .before .before .before .before .before in
-    let p : List ℕ = c .before .before .before .before .before .before .before .before .args .plan .now in
-    let w : at .loop .words ≡ take 21 (drop 4 p) = taken-all 4 (at .loop .i) p _ (omega arith) (at .loop .inv .1) in
-    let v : at .loop .values ≡ take 21 (drop 25 p) = taken-all 25 (at .loop .i) p _ (omega arith) (at .loop .inv .2) in
+    let at = c .before .before .before .before .before .before .before in
+    let p : List ℕ = at .before .before .args .plan .now in
+    let w : at .loop .words ≡ take 21 (drop 7 p) = taken-all 7 (at .loop .i) p _ (omega arith) (at .loop .inv .1) in
+    let v : at .loop .values ≡ take 21 (drop 30 p) = taken-all 30 (at .loop .i) p _ (omega arith) (at .loop .inv .2) in
     cc
 
 pub taken-in-spec : {M : Type 1} → statement M
@@ -107,6 +110,7 @@ taken-in-spec =
     loop-less
     loop-again
     shared-slice-read-t20
+    shared-slice-read-t23
     shared-slice-read-effect-in
     shared-slice-read-effect-in-2
     shared-slice-read-effect-in-3

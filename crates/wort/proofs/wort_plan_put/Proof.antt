@@ -7,8 +7,9 @@ use Rattle.wort.proofs.wort_plan_put.Tie as tie
 
 returns : tie.Need-returns
 returns c =
-    let laid = c .before .before .before .before .before .before in
-    (_, laid .lay-put .ensures, ap (planned (laid .lay-put .result .number)) (c .lay-plan .ensures))
+    let group = c .before .before .before in
+    let laid = group .before .before .before .before in
+    (_, laid .lay-put .ensures, ap (planned (laid .lay-put .result .number)) (rw (group .all-but-last .ensures) at (c .lay-plan .ensures)))
 
 pub wort-plan-put-spec : {M : Type 1} → statement M
 wort-plan-put-spec =
@@ -17,6 +18,7 @@ wort-plan-put-spec =
     (λ c. search needs)
     (λ c. search needs)
     (λ c κs. search needs)
+    (λ c. search needs)
     (λ c. search needs)
     (λ c. search needs)
     (λ c κs. search needs)

@@ -8,7 +8,7 @@ use borrow.Author.Needs.{needs}
 use Rattle.digits.specs.Loops.{scan}
 use Rattle.tree.specs.Stores.{Store}
 use Rattle.walk.proofs.Loops.{scan-here, scan-next, scan-none}
-use Rattle.plan.specs.Plans.{planOf}
+use Rattle.plan.specs.Plans.{oneGroup, planOf}
 use Rattle.plan.specs.declared.Effect.the-variants.{Nothing}
 use Rattle.opening.specs.Openings.{stale, firstStale}
 use Rattle.opening.proofs.Openings.{first-at, first-none}
@@ -47,7 +47,7 @@ returns c =
     let h : l .j ≡ firstStale (a .pool .now) (a .n) (a .map .now) = scan-here _ _ _
     (sym (at-is-stale .is-stale .ensures) ∙ at-if1 .if1 .taken) ∙ l .inv .1 in
     c .mend-plan .ensures ∙ rw (c .before .marked-depth .ensures)
-    (ap (λ (σ : List Store). planOf σ Nothing) (sym (first-at (a .pool .now) (a .n) (a .map .now) (l .j) h (at-loop-test .loop-test .taken))))
+    (ap (λ (σ : List Store). planOf oneGroup σ Nothing) (sym (first-at (a .pool .now) (a .n) (a .map .now) (l .j) h (at-loop-test .loop-test .taken))))
 
 add-j : tie.Need-add-j Inv-loop μ-loop
 add-j c = search needs
@@ -75,7 +75,7 @@ returns-2 c =
     let a = c .before .before .before .before .before .args in
     let l = c .before .before .loop in
     let h : l .j ≡ firstStale (a .pool .now) (a .n) (a .map .now) = scan-none _ _ _ (omega arith) ∙ l .inv .1 in
-    c .none .ensures ∙ ap (λ (σ : List Store). planOf σ Nothing) (sym (first-none (a .pool .now) (a .n) (a .map .now) (omega arith)))
+    c .none .ensures ∙ ap (λ (σ : List Store). planOf oneGroup σ Nothing) (sym (first-none (a .pool .now) (a .n) (a .map .now) (omega arith)))
 
 pub mend-first-spec : {M : Type 1} → statement M
 mend-first-spec =

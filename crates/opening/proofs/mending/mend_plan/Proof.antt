@@ -3,7 +3,7 @@ use mathlib.Core.Path.{ap, _∙_}
 use mathlib.Core.List.{List}
 use borrow.Author.Needs.{needs}
 use Rattle.tree.specs.Stores.{Store}
-use Rattle.plan.specs.Plans.{planOf}
+use Rattle.plan.specs.Plans.{oneGroup, planOf}
 use Rattle.plan.specs.declared.Effect.the-variants.{Nothing}
 use Rattle.opening.proofs.mending.mend_plan.Statement.{statement}
 use Rattle.opening.proofs.mending.mend_plan.Tie as tie
@@ -23,7 +23,7 @@ none-requires c κs = search needs
 returns : tie.Need-returns
 returns c =
     c .none .ensures
-    ∙ ap (λ (σ : List Store). planOf σ Nothing) (rw (c .before .enum-told .given .1) at (c .before .before .before .fresh-header .ensures))
+    ∙ ap (λ (σ : List Store). planOf oneGroup σ Nothing) (rw (c .before .enum-told .given .1) at (c .before .before .before .fresh-header .ensures))
 
 node-word-requires : tie.Need-node-word-requires
 node-word-requires c κs = search needs
@@ -36,7 +36,7 @@ returns-2 c =
     let at-word = c .before .before .before in
     let at-fresh-header = at-word .before .before in
     c .one .ensures ∙ rw (c .before .node-word .ensures)
-    (ap (λ (σ : List Store). planOf σ Nothing) (rw (at-word .word .given .1) at (at-fresh-header .fresh-header .ensures)))
+    (ap (λ (σ : List Store). planOf oneGroup σ Nothing) (rw (at-word .word .given .1) at (at-fresh-header .fresh-header .ensures)))
 
 pub mend-plan-spec : {M : Type 1} → statement M
 mend-plan-spec =

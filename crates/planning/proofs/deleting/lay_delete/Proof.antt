@@ -1,7 +1,7 @@
 -- `lay_delete` judges the size, and lays out what the delete comes to. Assumes nothing.
 use mathlib.Core.Path.{sym, ap, _∙_}
 use borrow.Author.Needs.{needs}
-use Rattle.plan.specs.Plans.{plannedOf}
+use Rattle.plan.specs.Plans.{theSwitch, plannedOf}
 use Rattle.removing.proofs.Deletes.{delete-unsized}
 use Rattle.planning.proofs.Plans.{gathered-none}
 use Rattle.planning.proofs.deleting.lay_delete.Statement.{statement}
@@ -10,8 +10,8 @@ use Rattle.planning.proofs.deleting.lay_delete.Tie as tie
 returns : tie.Need-returns
 returns c =
     let size = c .before .before .before in
-    gathered-none (size .before .before .before .before .pre) (c .refused .ensures)
-    ∙ ap plannedOf (delete-unsized _ _ (size .capacity .ensures .0) (c .before .enum-told .given .1))
+    gathered-none theSwitch (size .before .before .before .before .pre) (c .refused .ensures)
+    ∙ ap (plannedOf theSwitch) (delete-unsized _ _ (size .capacity .ensures .0) (c .before .enum-told .given .1))
 
 find-removal-requires : tie.Need-find-removal-requires
 find-removal-requires c κs =
@@ -22,7 +22,7 @@ find-removal-requires c κs =
 returns-2 : tie.Need-returns-2
 returns-2 c =
     let laid = c .before .before .before .before in
-    laid .lay-removal .ensures ∙ ap plannedOf (laid .before .find-removal .ensures)
+    laid .lay-removal .ensures ∙ ap (plannedOf theSwitch) (laid .before .find-removal .ensures)
 
 pub lay-delete-spec : {M : Type 1} → statement M
 lay-delete-spec =

@@ -2,6 +2,7 @@
 use native.Mathlib.Omega.{arith}
 use borrow.Author.Needs.{needs}
 use Rattle.plan.specs.declared.Effect.the-variants.{FreesLeaf, FreesBoth}
+use Rattle.plan.specs.Plans.{theSwitch}
 use Rattle.planning.proofs.Plans.{gathered-none, gathered-laid, blank-holding}
 use Rattle.planning.proofs.deleting.lay_removal.Statement.{statement}
 use Rattle.planning.proofs.deleting.lay_removal.Tie as tie
@@ -17,25 +18,25 @@ lifting-requires c κs = blank-holding (c .before .before .before .before .befor
 
 returns : tie.Need-returns
 returns c =
-    rw (c .before .before .r .given .1) (gathered-none (c .before .before .before .before .before .before .pre) (c .refused .ensures))
+    rw (c .before .before .r .given .1) (gathered-none theSwitch (c .before .before .before .before .before .before .pre) (c .refused .ensures))
 
 returns-2 : tie.Need-returns-2
 returns-2 c =
     let laid = c .before .before .before .before in
     let r = laid .before .before .before .before in
-    rw (r .r2 .given .1) (gathered-laid (r .before .before .before .before .pre) (FreesLeaf _) (omega arith) (laid .switching .ensures))
+    rw (r .r2 .given .1) (gathered-laid theSwitch (r .before .before .before .before .pre) (FreesLeaf _) (omega arith) (laid .switching .ensures))
 
 returns-3 : tie.Need-returns-3
 returns-3 c =
     let laid = c .before .before .before .before in
     let r = laid .before .before .before .before in
-    rw (r .r3 .given .1) (gathered-laid (r .before .before .before .before .pre) (FreesBoth _ _) (omega arith) (laid .switching2 .ensures))
+    rw (r .r3 .given .1) (gathered-laid theSwitch (r .before .before .before .before .pre) (FreesBoth _ _) (omega arith) (laid .switching2 .ensures))
 
 returns-4 : tie.Need-returns-4
 returns-4 c =
     let laid = c .before .before .before .before in
     let r = laid .before .before .before .before in
-    rw (r .r4 .given .1) (gathered-laid (r .before .before .before .before .pre) (FreesBoth _ _) (omega arith) (laid .lifting .ensures))
+    rw (r .r4 .given .1) (gathered-laid theSwitch (r .before .before .before .before .pre) (FreesBoth _ _) (omega arith) (laid .lifting .ensures))
 
 pub lay-removal-spec : {M : Type 1} → statement M
 lay-removal-spec =

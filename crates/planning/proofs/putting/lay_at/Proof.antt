@@ -2,6 +2,7 @@
 use native.Mathlib.Omega.{arith}
 use borrow.Author.Needs.{needs}
 use Rattle.plan.specs.declared.Effect.the-variants.{Nothing}
+use Rattle.plan.specs.Plans.{allButLast}
 use Rattle.planning.proofs.Plans.{gathered-none, gathered-laid, blank-holding}
 use Rattle.planning.proofs.putting.lay_at.Statement.{statement}
 use Rattle.planning.proofs.putting.lay_at.Tie as tie
@@ -24,7 +25,7 @@ returns : tie.Need-returns
 returns c =
     let laid = c .before .before .before .before in
     let place = laid .before .before .before .before in
-    rw (place .place .given .1) (gathered-laid (place .before .before .before .before .before .pre .0) Nothing (omega arith) (laid .replacing .ensures))
+    rw (place .place .given .1) (gathered-laid allButLast (place .before .before .before .before .before .pre .0) Nothing (omega arith) (laid .replacing .ensures))
 
 returns-2 : tie.Need-returns-2
 returns-2 c =
@@ -39,7 +40,7 @@ returns-3 c =
 returns-4 : tie.Need-returns-4
 returns-4 c =
     let place = c .before .before in
-    rw (place .place4 .given .1) (gathered-none (place .before .before .before .before .before .pre .0) (c .refused .ensures))
+    rw (place .place4 .given .1) (gathered-none allButLast (place .before .before .before .before .before .pre .0) (c .refused .ensures))
 
 pub lay-at-spec : {M : Type 1} → statement M
 lay-at-spec =

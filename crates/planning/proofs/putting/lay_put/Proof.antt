@@ -2,7 +2,7 @@
 use mathlib.Core.Path.{ap, _∙_}
 use native.Mathlib.Omega.{arith}
 use borrow.Author.Needs.{needs}
-use Rattle.plan.specs.Plans.{plannedOf}
+use Rattle.plan.specs.Plans.{allButLast, plannedOf}
 use Rattle.placing.proofs.Puts.{put-unsized, put-unmapped, put-placed}
 use Rattle.planning.proofs.Plans.{gathered-none}
 use Rattle.planning.proofs.putting.lay_put.Statement.{statement}
@@ -11,8 +11,8 @@ use Rattle.planning.proofs.putting.lay_put.Tie as tie
 returns : tie.Need-returns
 returns c =
     let size = c .before .before .before in
-    gathered-none (size .before .before .before .before .before .pre) (c .refused .ensures)
-    ∙ ap plannedOf (put-unsized _ _ _ _ (size .capacity .ensures .0) (c .before .enum-told .given .1))
+    gathered-none allButLast (size .before .before .before .before .before .pre) (c .refused .ensures)
+    ∙ ap (plannedOf allButLast) (put-unsized _ _ _ _ (size .capacity .ensures .0) (c .before .enum-told .given .1))
 
 mul-if1 : tie.Need-mul-if1
 mul-if1 c = let z = rw (c .before .n .given .1) at (c .before .before .before .capacity .ensures .1) in omega arith
@@ -24,8 +24,8 @@ returns-2 : tie.Need-returns-2
 returns-2 c =
     let n = c .before .before .before in
     let size = n .before .before in
-    gathered-none (size .before .before .before .before .before .pre) (c .refused2 .ensures)
-    ∙ ap plannedOf (put-unmapped _ _ _ _ (size .capacity .ensures .0) (n .n .given .1) (c .before .if1 .taken))
+    gathered-none allButLast (size .before .before .before .before .before .pre) (c .refused2 .ensures)
+    ∙ ap (plannedOf allButLast) (put-unmapped _ _ _ _ (size .capacity .ensures .0) (n .n .given .1) (c .before .if1 .taken))
 
 find-place-requires : tie.Need-find-place-requires
 find-place-requires c κs = let n = c .before .before .before .before in rw (n .n .given .1) at (n .before .before .capacity .ensures .1)
@@ -43,7 +43,7 @@ returns-3 c =
     let judged = laid .before .before .before .before in
     let n = judged .before .before in
     laid .lay-at .ensures
-    ∙ ap plannedOf (put-placed _ _ _ _ (n .before .before .capacity .ensures .0) (n .n .given .1) (judged .if1 .left) (laid .before .find-place .ensures))
+    ∙ ap (plannedOf allButLast) (put-placed _ _ _ _ (n .before .before .capacity .ensures .0) (n .n .given .1) (judged .if1 .left) (laid .before .find-place .ensures))
 
 pub lay-put-spec : {M : Type 1} → statement M
 lay-put-spec =

@@ -7,6 +7,7 @@ use Rattle.pool.specs.Sizes.{bytesOf}
 use Rattle.plan.specs.declared.Effect.the-variants.{TakesBoth}
 use Rattle.rules.proofs.Counts.{split-few}
 use Rattle.rules.proofs.Splits.{slots-inside}
+use Rattle.plan.specs.Plans.{allButLast}
 use Rattle.planning.proofs.Plans.{gathered-none, gathered-laid, blank-holding}
 use Rattle.planning.proofs.putting.lay_split.Statement.{statement}
 use Rattle.planning.proofs.putting.lay_split.Tie as tie
@@ -14,7 +15,7 @@ use Rattle.planning.proofs.putting.lay_split.Tie as tie
 returns : tie.Need-returns
 returns c =
     let room = c .before .before .before in
-    rw (← room .find-room .ensures, c .before .enum-told .given .1) (gathered-none (room .before .before .before .before .pre .0) (c .refused .ensures))
+    rw (← room .find-room .ensures, c .before .enum-told .given .1) (gathered-none allButLast (room .before .before .before .before .pre .0) (c .refused .ensures))
 
 -- the two slots are where they are looked for
 slots : (c : tie.After-known-told)
@@ -42,7 +43,7 @@ returns-2 c =
     let room = leaf .before .before in
     let start = room .before .before .before .before in
     rw (← room .find-room .ensures, leaf .leaf .given .1)
-    (gathered-laid (start .pre .0) (TakesBoth (leaf .leaf .given .0 .0) (leaf .leaf .given .0 .1 .0)) (split-few _ _ _ _ _ _ (start .args .target))
+    (gathered-laid allButLast (start .pre .0) (TakesBoth (leaf .leaf .given .0 .0) (leaf .leaf .given .0 .1 .0)) (split-few _ _ _ _ _ _ (start .args .target))
     (laid .splitting .ensures))
 
 pub lay-split-spec : {M : Type 1} → statement M

@@ -1,0 +1,12 @@
+-- `value_in` reads 0 past the end. Assumes nothing.
+use mathlib.Core.Path.{sym}
+use borrow.Author.Needs.{needs}
+use lib.ListN.{List·getD-eq-default}
+use Rattle.handing.proofs.value_in.Statement.{statement}
+use Rattle.handing.proofs.value_in.Tie as tie
+
+returns-2 : tie.Need-returns-2
+returns-2 c = sym (List·getD-eq-default (c .before .args .values .now) 0 (c .if1 .left))
+
+pub value-in-spec : {M : Type 1} → statement M
+value-in-spec = tie.close (tie.spec (λ c. search needs) (λ c. search needs) (λ c. search needs) returns-2)
