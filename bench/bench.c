@@ -489,13 +489,13 @@ static uint64_t count_lines(const uint64_t *plan, uint64_t from, uint64_t to)
     return lines;
 }
 
-/* A line is flushed once for each group that stores to it. */
+/* A line is flushed once for each group that stores to it. The plans are for ADR: a fence behind each group. */
 static void add_cost(struct cost *cost, const uint64_t *plan)
 {
     uint64_t count = plan[PLAN_COUNT], first = plan[PLAN_FIRST];
     cost->operations++;
     cost->stores += count;
-    cost->groups += (first > 0) + (count > first);
+    cost->groups += plan[PLAN_FENCES];
     cost->parts += count_parts(count);
     cost->lines += count_lines(plan, 0, count);
     cost->flushes += count_lines(plan, 0, first) + count_lines(plan, first, count);
@@ -524,18 +524,18 @@ static void count_costs(const char *shape, const uint64_t *keys)
     make_orders(&orders, keys);
     wort_pass_empty();
     for (size_t i = 0; i < KEYS; i++) {
-        expect(!wort_plan_put(pool, WORDS, map, BYTES, orders.put[i], 1, plan));
+        expect(!wort_plan_put(pool, WORDS, map, BYTES, orders.put[i], 1, WORT_ADR, plan));
         add_cost(&insert, plan);
         add_cost(plan[PLAN_COUNT] == 3 ? &add : plan[PLAN_COUNT] == 20 ? &split_leaf : &split_node, plan);
         carry_out(plan);
     }
     for (size_t i = 0; i < KEYS; i++) {
-        expect(!wort_plan_put(pool, WORDS, map, BYTES, orders.hit[i], 2, plan));
+        expect(!wort_plan_put(pool, WORDS, map, BYTES, orders.hit[i], 2, WORT_ADR, plan));
         add_cost(&replace, plan);
         carry_out(plan);
     }
     for (size_t i = 0; i < KEYS; i++) {
-        expect(!wort_plan_delete(pool, WORDS, orders.del[i], plan));
+        expect(!wort_plan_delete(pool, WORDS, orders.del[i], WORT_ADR, plan));
         add_cost(&del, plan);
         if (plan[PLAN_COUNT] == 2)
             add_cost(&merge_node, plan);

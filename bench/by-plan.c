@@ -61,7 +61,7 @@ uint64_t wort_format(uint64_t *pool, size_t words, uint8_t *map, size_t bytes, u
 uint64_t wort_put(uint64_t *pool, size_t words, uint8_t *map, size_t bytes, uint64_t key, uint64_t value, uint64_t *stores)
 {
     uint64_t plan[PLAIN_PLAN];
-    uint64_t number = wort_plan_put(pool, words, map, bytes, key, value, plan);
+    uint64_t number = wort_plan_put(pool, words, map, bytes, key, value, WORT_EADR, plan);
     make(pool, plan);
     wort_finish(map, bytes, plan);
     *stores = plan[PLAN_COUNT];
@@ -74,7 +74,7 @@ uint64_t wort_delete(uint64_t *pool, size_t words, uint8_t *map, size_t bytes, u
     *stores = 0;
     if (!map_fits(pool, words, bytes))
         return 1;
-    uint64_t number = wort_plan_delete(pool, words, key, plan);
+    uint64_t number = wort_plan_delete(pool, words, key, WORT_EADR, plan);
     make(pool, plan);
     wort_finish(map, bytes, plan);
     *stores = plan[PLAN_COUNT];
@@ -85,7 +85,7 @@ uint64_t wort_delete(uint64_t *pool, size_t words, uint8_t *map, size_t bytes, u
 uint64_t wort_open(uint64_t *pool, size_t words, uint8_t *map, size_t bytes, uint64_t *keys, uint64_t *headers)
 {
     uint64_t plan[PLAIN_PLAN], made = 0;
-    while (map_fits(pool, words, bytes) && !wort_plan_open(pool, words, plan) && plan[PLAN_COUNT]) {
+    while (map_fits(pool, words, bytes) && !wort_plan_open(pool, words, WORT_EADR, plan) && plan[PLAN_COUNT]) {
         make(pool, plan);
         made++;
     }

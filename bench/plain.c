@@ -5,6 +5,7 @@
 #include <string.h>
 
 enum { DONE, SIZE, DAMAGE, ABSENT, NO_ROOM, NO_STEP, BUFFERS, RETIRED };
+enum { ADR = 1, EADR };
 enum { NOTHING, TAKES_LEAF, TAKES_LEAF_AND_NODE, FREES_LEAF, FREES_LEAF_AND_NODE };
 
 #define MOST_LEAVES 1024
@@ -596,19 +597,26 @@ static inline void add_store(uint64_t *plan, size_t place, uint64_t value)
     plan[PLAN_VALUES + at] = value;
 }
 
-/* The plan is made: so many of its stores are its first group. */
-static inline uint64_t grouped(uint64_t *plan, uint64_t first)
+/* The plan is made: so many of its stores are its first group. On ADR each group has a fence behind it. */
+static inline uint64_t grouped(uint64_t *plan, uint64_t first, uint64_t generation)
 {
     plan[PLAN_FIRST] = first;
+    plan[PLAN_FENCES] = generation == ADR ? 1 + (first < plan[PLAN_COUNT]) : 0;
     return DONE;
 }
 
-uint64_t plain_plan_put(const uint64_t *pool, size_t words, const uint8_t *map, size_t bytes, uint64_t key, uint64_t value, uint64_t plan[PLAIN_PLAN])
+static inline bool known(uint64_t generation)
+{
+    return generation == ADR || generation == EADR;
+}
+
+uint64_t plain_plan_put(const uint64_t *pool, size_t words, const uint8_t *map, size_t bytes, uint64_t key, uint64_t value,
+                        uint64_t generation, uint64_t plan[PLAIN_PLAN])
 {
     struct fit fit;
     uint64_t n = capacity_with_map(pool, words, bytes);
     memset(plan, 0, PLAIN_PLAN * sizeof *plan);
-    if (!n)
+    if (!known(generation) || !n)
         return SIZE;
     if (!value)
         return RETIRED;
@@ -617,7 +625,7 @@ uint64_t plain_plan_put(const uint64_t *pool, size_t words, const uint8_t *map, 
         return DAMAGE;
     if (fitting == HELD) {
         add_store(plan, fit.place, value);
-        return grouped(plan, 1);
+        return grouped(plan, 1, generation);
     }
     size_t leaf = lowest_free(map, n);
     size_t node = fitting == SPLIT ? lowest_free(map + n, n - 1) : 0;
@@ -629,7 +637,7 @@ uint64_t plain_plan_put(const uint64_t *pool, size_t words, const uint8_t *map, 
     plan[PLAN_LEAF] = leaf;
     if (fitting == EMPTY) {
         add_store(plan, fit.place, leaf + 1);
-        return grouped(plan, plan[PLAN_COUNT] - 1);
+        return grouped(plan, plan[PLAN_COUNT] - 1, generation);
     }
     plan[PLAN_EFFECT] = TAKES_LEAF_AND_NODE;
     plan[PLAN_NODE] = n + node;
@@ -643,15 +651,15 @@ uint64_t plain_plan_put(const uint64_t *pool, size_t words, const uint8_t *map, 
     if (fit.target)
         add_store(plan, fit.target, header_of(fit.f + 1, fit.b, fit.k2));
     add_store(plan, fit.place, link);
-    return grouped(plan, plan[PLAN_COUNT] - 1);
+    return grouped(plan, plan[PLAN_COUNT] - 1, generation);
 }
 
-uint64_t plain_plan_delete(const uint64_t *pool, size_t words, uint64_t key, uint64_t plan[PLAIN_PLAN])
+uint64_t plain_plan_delete(const uint64_t *pool, size_t words, uint64_t key, uint64_t generation, uint64_t plan[PLAIN_PLAN])
 {
     struct removal removal;
     uint64_t n = capacity(pool, words);
     memset(plan, 0, PLAIN_PLAN * sizeof *plan);
-    if (!n)
+    if (!known(generation) || !n)
         return SIZE;
     uint64_t number = find_removal(pool, n, key, &removal);
     if (number != DONE)
@@ -662,15 +670,15 @@ uint64_t plain_plan_delete(const uint64_t *pool, size_t words, uint64_t key, uin
     plan[PLAN_EFFECT] = removal.node ? FREES_LEAF_AND_NODE : FREES_LEAF;
     plan[PLAN_LEAF] = removal.leaf - 1;
     plan[PLAN_NODE] = removal.node ? n + removal.node - FIRST_NODE : 0;
-    return grouped(plan, 1);
+    return grouped(plan, 1, generation);
 }
 
-uint64_t plain_plan_open(const uint64_t *pool, size_t words, uint64_t plan[PLAIN_PLAN])
+uint64_t plain_plan_open(const uint64_t *pool, size_t words, uint64_t generation, uint64_t plan[PLAIN_PLAN])
 {
     struct survey survey;
     uint64_t n = capacity(pool, words);
     memset(plan, 0, PLAIN_PLAN * sizeof *plan);
-    if (!n)
+    if (!known(generation) || !n)
         return SIZE;
     if (!survey_pool(&survey, pool, n))
         return DAMAGE;
@@ -678,7 +686,7 @@ uint64_t plain_plan_open(const uint64_t *pool, size_t words, uint64_t plan[PLAIN
         if (survey.stale[i]) {
             unsigned node = 64 * i + __builtin_ctzll(survey.stale[i]);
             add_store(plan, header_place(FIRST_NODE + node, n), survey.fresh[node]);
-            return grouped(plan, 1);
+            return grouped(plan, 1, generation);
         }
     }
     return DONE;

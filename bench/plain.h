@@ -19,9 +19,10 @@ uint64_t plain_list(const uint64_t *pool, size_t words, uint64_t from,
 uint64_t plain_put(uint64_t *pool, size_t words, uint8_t *map, size_t bytes, uint64_t key, uint64_t value, uint64_t *stores);
 uint64_t plain_delete(uint64_t *pool, size_t words, uint8_t *map, size_t bytes, uint64_t key, uint64_t *stores);
 
-uint64_t plain_plan_put(const uint64_t *pool, size_t words, const uint8_t *map, size_t bytes, uint64_t key, uint64_t value, uint64_t plan[PLAIN_PLAN]);
-uint64_t plain_plan_delete(const uint64_t *pool, size_t words, uint64_t key, uint64_t plan[PLAIN_PLAN]);
-uint64_t plain_plan_open(const uint64_t *pool, size_t words, uint64_t plan[PLAIN_PLAN]);
+uint64_t plain_plan_put(const uint64_t *pool, size_t words, const uint8_t *map, size_t bytes, uint64_t key, uint64_t value,
+                        uint64_t generation, uint64_t plan[PLAIN_PLAN]);
+uint64_t plain_plan_delete(const uint64_t *pool, size_t words, uint64_t key, uint64_t generation, uint64_t plan[PLAIN_PLAN]);
+uint64_t plain_plan_open(const uint64_t *pool, size_t words, uint64_t generation, uint64_t plan[PLAIN_PLAN]);
 uint64_t plain_step(uint64_t *pool, size_t words, const uint64_t plan[PLAIN_PLAN], uint64_t at);
 uint64_t plain_finish(uint8_t *map, size_t bytes, const uint64_t plan[PLAIN_PLAN]);
 

@@ -188,7 +188,7 @@ Noise: plain C lies apart from a second copy of itself by up to these ratios in 
 ## What an operation costs to make persistent
 
 Means over 1,024 keys in random order, from the library's plans. A group is what may arrive in any order between two fences: for a
-put everything but the last store, then the last; for a delete the switch, then the header. Lines are distinct 64-byte lines, of a
+put everything but the last store, then the last; for a delete the switch, then the header. On ADR each group takes a fence, on eADR none. Lines are distinct 64-byte lines, of a
 pool that begins on one; a line is flushed once for each group that stores to it. Parts are what the paper's algorithm 1 flushes, a
 call for each: leaf, new node, header, reference. Opening stores one header, in one line and one group, for each that is stale.
 

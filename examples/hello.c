@@ -7,7 +7,7 @@
 
 int main(void)
 {
-    static uint64_t pool[WORT_WORDS(N)]; /* in persistent memory a put is planned and stepped: see below */
+    static uint64_t pool[WORT_WORDS(N)]; /* in persistent memory: see examples/durable.c */
     static uint8_t map[WORT_BYTES(N)];   /* lost at a cut: wort_open makes it anew */
     uint64_t keys[N], values[N], stores, value, nodes, count, more;
 

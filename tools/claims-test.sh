@@ -39,8 +39,8 @@ unread='is not what was read'
 
 # The claims.
 mistake "demand 3 is another statement under its name" $specs/Claims.antt \
-    'Within, Demand3, Begins' 'Within, Begins as Demand3, Begins' "$specs/Claims.antt $line use Rattle.demands.specs.Demand3"
-mistake "demand 3 is not claimed" $specs/Claims.antt $'  pub demand3 : Demand3 InGroups\n' '' "$specs/Claims.antt $line   pub demand3 : Demand3 InGroups"
+    'Demand3, Covers, Begins' 'Begins as Demand3, Covers, Begins' "$specs/Claims.antt $line use Rattle.demands.specs.Demand3"
+mistake "demand 3 is not claimed" $specs/Claims.antt $'  pub demand3 : (g : Generation) → Demand3 g\n' '' "$specs/Claims.antt $line   pub demand3 : (g : Generation) → Demand3 g"
 mistake "the law is of another statement under its name" $law \
     'specs.specs.Claims.{Claims}' 'specs.specs.Opening.{Opens as Claims}' "$law $line use Rattle.demands.specs.Claims.{Claims}"
 mistake "the law is of another statement" $law 'pub claims : Claims' 'pub claims : Opens' "$law $line pub claims : Claims"

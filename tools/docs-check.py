@@ -3,7 +3,8 @@
 
 Usage: docs-check.py [--write]      --write puts the counted numbers into the documents.
 
-Read: README.md, docs/*.md, host/README.md. Blocks between ``` are not read, but README's C program has to be examples/hello.c.
+Read: README.md, docs/*.md, host/README.md. Blocks between ``` are not read, but README's first block of C has to be examples/hello.c, and each
+other one has to stand in examples/durable.c and in the comment of include/wort.h.
 
 A link [..](path) has to lead to a file or folder, seen from its document; #place has to be a heading there.
 
@@ -224,10 +225,17 @@ class Check:
                 wrong = "stands and does not belong" if file in given else "is missing"
                 self.fault("docs/AUDIT.md", f"{file.relative_to(ROOT)} {wrong} below {heading!r}")
 
-    def program(self):
+    def programs(self):
+        """README's first block of C is a whole example; the others, and the lines in the header's comment, are parts of another."""
+        hello, durable = ((ROOT / "examples" / name).read_text() for name in ("hello.c", "durable.c"))
         blocks = re.findall(r"^```c\n(.*?)^```$", (ROOT / "README.md").read_text(), re.M | re.S)
-        if blocks != [(ROOT / "examples" / "hello.c").read_text()]:
-            self.fault("README.md", "its C program is not examples/hello.c")
+        if blocks[:1] != [hello]:
+            self.fault("README.md", "its first C program is not examples/hello.c")
+        header = re.sub(r"^ \*(   )?", "", (ROOT / "include" / "wort.h").read_text(), flags=re.M)
+        for block in blocks[1:]:
+            for place, text in (("README.md", durable), ("include/wort.h", header)):
+                if block not in text:
+                    self.fault(place, f"not there as README.md and examples/durable.c have it: {block.splitlines()[0]} ..")
 
 
 def headings(document):
@@ -243,7 +251,7 @@ def main():
     for document in DOCUMENTS:
         check.document(document)
     check.believed()
-    check.program()
+    check.programs()
     if check.faults:
         sys.exit("\n".join(check.faults) + f"\n{len(check.faults)} faults in the documents.")
     print(f"{len(DOCUMENTS)} documents, {check.seen} names and counts: all as the repository has them")

@@ -233,6 +233,7 @@ def picture_split(library):
     plan = pool.plan_put(NEW, FILE)
     states = run(pool, plan)
     slots, turn = shown_words(pool, plan), switch(states)
+    assert plan.fences == 2
     runs = panels(states)
     p = Picture(960, 1010, "A put that splits a node, store by store")
     p.text(20, 28, f"A put of {short(NEW)} that splits node 0: {len(plan.stores)} stores, one switch", 16, bold=True)
@@ -243,7 +244,7 @@ def picture_split(library):
     y = 122
     for made, state in enumerate(states):
         if made == plan.first + 1:
-            y = fence(p, y, f"a fence here, on memory that needs one: the stores 1 to {plan.first} are a group, and may arrive in any order")
+            y = fence(p, y, f"a fence here, on ADR: the stores 1 to {plan.first} are a group, and may arrive in any order")
         if made == turn:
             p.line(20, y + 4, 940, y + 4, RED, 2)
             p.text(20, y + 19, "the switch: the last store. Until here the name is absent from both lookup and listing, from here on it is in both.", 11, RED, bold=True)
@@ -301,7 +302,7 @@ def picture_merge(library):
     cut = stale.pool.copy()
     names, headers = cut.open()
     opened = State(cut)
-    assert switch(states) == plan.first == 1 and done.words == opened.words and done.map == opened.map
+    assert switch(states) == plan.first == 1 and plan.fences == 2 and done.words == opened.words and done.map == opened.map
     stored = [f"{pool.name(word)} := {written(pool, word, value)}" for word, value in plan.stores]
     p = Picture(960, 1060, "A delete that merges two nodes, its stale node, and the opening that mends it")
     p.text(20, 28, f"A delete of {short(NEW)} that merges two nodes: {len(plan.stores)} stores, the first is the switch, each is a group", 16, bold=True)
@@ -475,6 +476,7 @@ def too_early(pool):
 def walk_groups(start, plan):
     """The put's two groups: what a cut leaves when a group's stores arrive in any order, and what it could leave without the fence between."""
     first, last = range(plan.first), len(plan.stores) - 1
+    assert plan.fences == 2
     chosen = [at for at in first if plan.stores[at][1]]
     others = [at for at in first if not plan.stores[at][1]]
     header = first[-1]
@@ -486,8 +488,8 @@ def walk_groups(start, plan):
         group_row(f"1 to {header + 1}, then {last + 1}", [State(start.left(plan, [*first, last]))]),
     ]
     early = [too_early(start.left(plan, [last, *part])) for part in arrived if len(part) < len(first)]
-    return f"""The plan's stores are in two groups: 1 to {header + 1}, then {last + 1}. On memory that needs fences the caller puts one after store {header + 1} and one after store {last + 1}, before the next operation begins.
-Between two fences stores may reach memory in any order. So a cut in the first group leaves any of its stores, and not only the first rows of the table.
+    return f"""The plan's stores are in two groups: 1 to {header + 1}, then {last + 1}. On ADR the caller puts a fence after store {header + 1} and one after store {last + 1}, before the next operation begins; its plan says 2 fences. On eADR stores arrive in their order, and the plan says none.
+Between two fences of ADR stores may reach memory in any order. So a cut in the first group leaves any of its stores, and not only the first rows of the table.
 
 Tried here with the library: of the first group the {len(chosen)} stores that write something other than 0 ({numbers(chosen)}), every subset of them, with none of the other {len(others)} and with all.
 
@@ -566,7 +568,7 @@ A cut before store {turn - 1} has arrived, or after store {turn}, leaves nothing
 
 {memory(states[-1], pool)}
 
-The listing is {states[-1].listed()}. A delete of {hex(NEW)} goes the other way, by two stores with the switch first, each a group with a fence behind it. Every operation needs its last fence before the next one begins: after a delete of one store the next put could else fill the freed leaf in memory while the old reference still leads there.
+The listing is {states[-1].listed()}. A delete of {hex(NEW)} goes the other way, by two stores with the switch first, each a group with a fence behind it. On ADR every operation needs its last fence before the next one begins: after a delete of one store the next put could else fill the freed leaf in memory while the old reference still leads there.
 
 ![The delete, its stale node, and the opening that mends it](pictures/merge.svg)
 """

@@ -8,9 +8,11 @@ import sys
 
 ROOT = pathlib.Path(__file__).resolve().parent.parent
 LIB_DIR = pathlib.Path(os.environ.get("WORT_LIB_DIR", ROOT / "target" / "staticlib"))
-COUNT, FIRST, PLACES, ROOM = 0, 1, 7, 23  # of a plan's words: the count, the stores of the first group, the first word number, and how many
+# of a plan's words: the count, the stores of the first group, the fences, the first word number, and how many
+COUNT, FIRST, FENCES, PLACES, ROOM = 0, 1, 2, 7, 23
 VALUES = PLACES + ROOM
 PlanWords = ctypes.c_uint64 * (VALUES + ROOM)
+ADR = 1  # the generation that plans are made for here: the one whose plans ask for fences
 LEFT_OVER = 0xEEEEEEEEEEEEEEEE  # what the words of a pool hold before it is formatted
 
 
@@ -34,10 +36,10 @@ class Refused(SystemExit):
 
 
 class Plan:
-    """A plan's words, its stores, and how many of them are its first group."""
+    """A plan's words, its stores, how many of them are its first group, and its fences."""
 
     def __init__(self, words):
-        self.words, self.first = words, words[FIRST]
+        self.words, self.first, self.fences = words, words[FIRST], words[FENCES]
         self.stores = [(words[PLACES + i], words[VALUES + i]) for i in range(words[COUNT])]
 
 
@@ -81,7 +83,7 @@ class Pool:
 
     def plan(self, name, *lent):
         words = PlanWords()
-        self.call("plan_" + name, *lent, words)
+        self.call("plan_" + name, *lent, ADR, words)
         return Plan(words)
 
     def plan_put(self, key, value):

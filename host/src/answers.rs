@@ -2,7 +2,7 @@
 
 /// Done.
 pub const DONE: u64 = 0;
-/// N, word 0, pool length or map length wrong.
+/// N, word 0, pool length or map length wrong; or a generation that is none.
 pub const SIZE: u64 = 1;
 /// Damage met.
 pub const DAMAGE: u64 = 2;
@@ -17,6 +17,11 @@ pub const BUFFERS: u64 = 6;
 /// A put of file number 0: reserved names are retired.
 pub const RETIRED: u64 = 7;
 
+/// The platform generations. On ADR the stores between two fences may arrive in any order.
+pub const ADR: u64 = 1;
+/// On eADR stores arrive in their order.
+pub const EADR: u64 = 2;
+
 /// A pool's capacity is 1 to this many leaves.
 pub const MOST_LEAVES: u64 = 1024;
 /// A plan holds at most this many stores.
@@ -26,7 +31,7 @@ pub const MOST_STORES: usize = 21;
 pub const PLAN_COUNT: usize = 0;
 /// The stores of the first group: the count if there is one group, 0 if there is none.
 pub const PLAN_FIRST: usize = 1;
-/// The fences: 0.
+/// The fences: on ADR one for each group, on eADR 0.
 pub const PLAN_FENCES: usize = 2;
 pub const PLAN_EFFECT: usize = 3;
 /// The effect's data: the leaf's map byte, the node's map byte, and a word that no effect uses.
@@ -123,9 +128,9 @@ pub trait Calls {
     fn list(&self, pool: &[u64], from: u64, keys: &mut [u64], values: &mut [u64]) -> Listed;
     fn put(&self, pool: &mut [u64], map: &mut [u8], key: u64, value: u64) -> Made;
     fn delete(&self, pool: &mut [u64], map: &mut [u8], key: u64) -> Made;
-    fn plan_put(&self, pool: &[u64], map: &[u8], key: u64, value: u64) -> Planned;
-    fn plan_delete(&self, pool: &[u64], key: u64) -> Planned;
-    fn plan_open(&self, pool: &[u64]) -> Planned;
+    fn plan_put(&self, pool: &[u64], map: &[u8], key: u64, value: u64, generation: u64) -> Planned;
+    fn plan_delete(&self, pool: &[u64], key: u64, generation: u64) -> Planned;
+    fn plan_open(&self, pool: &[u64], generation: u64) -> Planned;
     fn step(&self, pool: &mut [u64], plan: &Plan, at: u64) -> u64;
     fn finish(&self, map: &mut [u8], plan: &Plan) -> u64;
 }

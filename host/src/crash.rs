@@ -34,7 +34,7 @@ impl<'a, C: Calls> Crash<'a, C> {
     pub fn fill(&mut self) {
         for key in self.keys.clone() {
             let operation = Operation::Put(key, self.chance.word());
-            let planned = operation.plan(self.calls, &self.pool, &self.map);
+            let planned = operation.plan(self.calls, &self.pool, &self.map, ADR);
             if planned.number == DONE {
                 self.whole_call(operation, &planned).expect("a finished put");
             }
@@ -44,7 +44,7 @@ impl<'a, C: Calls> Crash<'a, C> {
     /// One operation: all its cuts on copies, then one outcome for good.
     pub fn operation(&mut self) -> Result<(), String> {
         let operation = self.some_operation();
-        let planned = operation.plan(self.calls, &self.pool, &self.map);
+        let planned = operation.plan(self.calls, &self.pool, &self.map, ADR);
         let wanted = operation.number(&self.table, self.n);
         if planned.number != wanted {
             return Err(format!("{operation:?} gives {}, not {wanted}", planned.number));

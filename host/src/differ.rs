@@ -262,30 +262,54 @@ impl Differ {
         self.compare("delete", ours.number, ours.stores, &ours, &theirs, key)
     }
 
+    /// A platform generation, now and then one that there is not.
+    fn generation(&mut self) -> u64 {
+        match self.chance.below(6) {
+            0 => self.chance.pick(&[0, 3, 1 << 32 | ADR, 1 << 32 | EADR, u64::MAX]),
+            _ => self.chance.pick(&[ADR, EADR]),
+        }
+    }
+
     fn plan_put(&mut self) -> Result<(), String> {
-        let (key, value) = (self.key(), self.value());
-        let ours = self.read(|pool, map| Library.plan_put(pool, map, key, value));
-        let theirs = Model.plan_put(&self.twin.pool, &self.twin.map, key, value);
-        self.keep(&theirs.plan);
-        let stores = ours.plan[PLAN_COUNT];
-        self.compare("plan_put", ours.number, stores, &ours, &theirs, (key, value))
+        let (key, value, generation) = (self.key(), self.value(), self.generation());
+        let ours = self.read(|pool, map| Library.plan_put(pool, map, key, value, generation));
+        let model = |twin: &Twin, generation| Model.plan_put(&twin.pool, &twin.map, key, value, generation);
+        self.compare_plans("plan_put", &ours, model, generation, (key, value))
     }
 
     fn plan_delete(&mut self) -> Result<(), String> {
-        let key = self.key();
-        let ours = self.read(|pool, _| Library.plan_delete(pool, key));
-        let theirs = Model.plan_delete(&self.twin.pool, key);
-        self.keep(&theirs.plan);
-        let stores = ours.plan[PLAN_COUNT];
-        self.compare("plan_delete", ours.number, stores, &ours, &theirs, key)
+        let (key, generation) = (self.key(), self.generation());
+        let ours = self.read(|pool, _| Library.plan_delete(pool, key, generation));
+        let model = |twin: &Twin, generation| Model.plan_delete(&twin.pool, key, generation);
+        self.compare_plans("plan_delete", &ours, model, generation, key)
     }
 
     fn plan_open(&mut self) -> Result<(), String> {
-        let ours = self.read(|pool, _| Library.plan_open(pool));
-        let theirs = Model.plan_open(&self.twin.pool);
+        let generation = self.generation();
+        let ours = self.read(|pool, _| Library.plan_open(pool, generation));
+        let model = |twin: &Twin, generation| Model.plan_open(&twin.pool, generation);
+        self.compare_plans("plan_open", &ours, model, generation, ())
+    }
+
+    /// Beside the model's plan for the same generation. Where there is no such generation, what ADR would have given is noted.
+    fn compare_plans(
+        &mut self,
+        call: &'static str,
+        ours: &Planned,
+        model: impl Fn(&Twin, u64) -> Planned,
+        generation: u64,
+        asked: impl Debug,
+    ) -> Result<(), String> {
+        let theirs = model(&self.twin, generation);
         self.keep(&theirs.plan);
+        let noted = match generation {
+            ADR => (FENCES_ADR, ours.number, ours.plan[PLAN_FENCES]),
+            EADR => (FENCES_EADR, ours.number, ours.plan[PLAN_FENCES]),
+            _ => (NO_GENERATION, ours.number, model(&self.twin, ADR).number),
+        };
+        *self.tally.entry(noted).or_default() += 1;
         let stores = ours.plan[PLAN_COUNT];
-        self.compare("plan_open", ours.number, stores, &ours, &theirs, ())
+        self.compare(call, ours.number, stores, ours, &theirs, (asked, generation))
     }
 
     /// The plan last made, its next step most of the time.
@@ -478,9 +502,19 @@ pub const BESIDE: &str = "lookup_quick beside lookup";
 /// On pools that are not sound the quick lookup may miss what the plain one finds, or where it meets damage.
 pub const MISSED: [u64; 2] = [DONE, DAMAGE];
 
+/// The fences of plans on ADR, and on eADR.
+pub const FENCES_ADR: &str = "fences on ADR";
+pub const FENCES_EADR: &str = "fences on eADR";
+
+/// The number of a planning call for a generation that there is not, beside the one for ADR.
+pub const NO_GENERATION: &str = "no generation beside ADR";
+
+/// No number comes before that of a wrong generation.
+pub const OUTRANKED: [u64; 6] = [DONE, SIZE, DAMAGE, ABSENT, NO_ROOM, RETIRED];
+
 /// What the calls that end well count: put's and delete's stores, a lookup's nodes, open's headers (2 for more), listing's
-/// further entry, finish's effect.
-pub const COUNTS: [(&str, &[u64]); 10] = [
+/// further entry, finish's effect, a plan's fences.
+pub const COUNTS: [(&str, &[u64]); 12] = [
     ("put", &[1, 3, 20, 21]),
     ("delete", &[1, 2]),
     ("plan_put", &[1, 3, 20, 21]),
@@ -491,4 +525,6 @@ pub const COUNTS: [(&str, &[u64]); 10] = [
     ("lookup_quick", &[0, 1, 2, 3, 4, 5, 6, 7, 8, 9, 10, 11, 12, 13, 14, 15, 16]),
     ("list", &[0, 1]),
     ("finish", &[0, 1, 2, 3, 4]),
+    (FENCES_ADR, &[0, 1, 2]),
+    (FENCES_EADR, &[0]),
 ];

@@ -144,7 +144,7 @@ impl<C: Calls> Search<'_, C> {
 
     /// The operation, cut everywhere and finished.
     fn operation(&mut self, pool: &[u64], map: &[u8], before: usize, operation: Operation) -> Result<(), String> {
-        let planned = operation.plan(self.calls, pool, map);
+        let planned = operation.plan(self.calls, pool, map, ADR);
         let wanted = operation.number(&self.tables[before], self.bounds.n);
         if planned.number != wanted {
             return Err(format!("gives {}, not {wanted}", planned.number));

@@ -1,6 +1,8 @@
 //! Tests from outside for libwort: safe calls over its C interface, and a model of document 01 to hold it against.
 
 pub mod answers;
+pub mod cache;
+pub mod caller;
 pub mod chance;
 pub mod crash;
 pub mod cuts;

@@ -47,10 +47,11 @@ mod c {
             bytes: usize,
             key: u64,
             value: u64,
+            generation: u64,
             plan: *mut u64,
         ) -> u64;
-        pub fn wort_plan_delete(pool: *const u64, words: usize, key: u64, plan: *mut u64) -> u64;
-        pub fn wort_plan_open(pool: *const u64, words: usize, plan: *mut u64) -> u64;
+        pub fn wort_plan_delete(pool: *const u64, words: usize, key: u64, generation: u64, plan: *mut u64) -> u64;
+        pub fn wort_plan_open(pool: *const u64, words: usize, generation: u64, plan: *mut u64) -> u64;
         pub fn wort_step(pool: *mut u64, words: usize, plan: *const u64, at: u64) -> u64;
         pub fn wort_finish(map: *mut u8, bytes: usize, plan: *const u64) -> u64;
     }
@@ -159,21 +160,21 @@ impl Calls for Library {
         Made { number, stores: stores.read()[0] }
     }
 
-    fn plan_put(&self, pool: &[u64], map: &[u8], key: u64, value: u64) -> Planned {
+    fn plan_put(&self, pool: &[u64], map: &[u8], key: u64, value: u64, generation: u64) -> Planned {
         // SAFETY: both runs are lent with their own lengths, the plan for all its words.
         planned(|plan| unsafe {
-            c::wort_plan_put(pool.as_ptr(), pool.len(), map.as_ptr(), map.len(), key, value, plan)
+            c::wort_plan_put(pool.as_ptr(), pool.len(), map.as_ptr(), map.len(), key, value, generation, plan)
         })
     }
 
-    fn plan_delete(&self, pool: &[u64], key: u64) -> Planned {
+    fn plan_delete(&self, pool: &[u64], key: u64, generation: u64) -> Planned {
         // SAFETY: the pool is lent with its own length, the plan for all its words.
-        planned(|plan| unsafe { c::wort_plan_delete(pool.as_ptr(), pool.len(), key, plan) })
+        planned(|plan| unsafe { c::wort_plan_delete(pool.as_ptr(), pool.len(), key, generation, plan) })
     }
 
-    fn plan_open(&self, pool: &[u64]) -> Planned {
+    fn plan_open(&self, pool: &[u64], generation: u64) -> Planned {
         // SAFETY: the pool is lent with its own length, the plan for all its words.
-        planned(|plan| unsafe { c::wort_plan_open(pool.as_ptr(), pool.len(), plan) })
+        planned(|plan| unsafe { c::wort_plan_open(pool.as_ptr(), pool.len(), generation, plan) })
     }
 
     fn step(&self, pool: &mut [u64], plan: &Plan, at: u64) -> u64 {

@@ -266,12 +266,25 @@ fn delete_groups(stores: &[Store]) -> [&[Store]; 2] {
     [switch, header]
 }
 
-/// A refusal gives a plan that does nothing.
-fn planned(outcome: Result<Plan, u64>) -> Planned {
+/// 02 (v): "Planning takes the generation." "Any other generation is 1, before all else." A refusal gives a plan that does nothing.
+fn planned(generation: u64, outcome: impl FnOnce() -> Result<Plan, u64>) -> Planned {
+    let outcome = match generation {
+        ADR | EADR => outcome(),
+        _ => Err(SIZE),
+    };
     match outcome {
-        Ok(plan) => Planned { number: DONE, plan },
+        Ok(plan) => Planned { number: DONE, plan: with_fences(generation, plan) },
         Err(number) => Planned { number, plan: NO_PLAN },
     }
+}
+
+/// "An ADR plan has a fence after each group, an eADR plan none, and the plan reports the number."
+fn with_fences(generation: u64, mut plan: Plan) -> Plan {
+    let groups = [plan[PLAN_FIRST], plan[PLAN_COUNT] - plan[PLAN_FIRST]];
+    if generation == ADR {
+        plan[PLAN_FENCES] = groups.into_iter().filter(|stores| *stores > 0).count() as u64;
+    }
+    plan
 }
 
 /// "The whole call plans, makes all stores and finishes."
@@ -729,16 +742,16 @@ impl Calls for Model {
         carry_out(pool, map, outcome)
     }
 
-    fn plan_put(&self, pool: &[u64], map: &[u8], key: u64, value: u64) -> Planned {
-        planned(put_plan(pool, map, key, value))
+    fn plan_put(&self, pool: &[u64], map: &[u8], key: u64, value: u64, generation: u64) -> Planned {
+        planned(generation, || put_plan(pool, map, key, value))
     }
 
-    fn plan_delete(&self, pool: &[u64], key: u64) -> Planned {
-        planned(delete_plan(pool, key))
+    fn plan_delete(&self, pool: &[u64], key: u64, generation: u64) -> Planned {
+        planned(generation, || delete_plan(pool, key))
     }
 
-    fn plan_open(&self, pool: &[u64]) -> Planned {
-        planned(open_plan(pool))
+    fn plan_open(&self, pool: &[u64], generation: u64) -> Planned {
+        planned(generation, || open_plan(pool))
     }
 
     fn step(&self, pool: &mut [u64], plan: &Plan, at: u64) -> u64 {

@@ -52,11 +52,11 @@ impl<C: Calls> Script<'_, C> {
     fn line(&mut self, number: usize, line: &[u8]) {
         match (parse(line), self.cut.take()) {
             (Some(Line::Put(key, value)), Some(stores)) => {
-                let planned = self.calls.plan_put(&self.pool, &self.map, key, value);
+                let planned = self.calls.plan_put(&self.pool, &self.map, key, value, EADR);
                 self.cut_after(&planned, stores);
             }
             (Some(Line::Delete(key)), Some(stores)) => {
-                let planned = self.calls.plan_delete(&self.pool, key);
+                let planned = self.calls.plan_delete(&self.pool, key, EADR);
                 self.cut_after(&planned, stores);
             }
             (Some(line), None) => self.carry_out(line),

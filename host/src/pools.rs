@@ -101,9 +101,9 @@ pub fn cut(chance: &mut Chance, n: usize) -> Made {
     let mut made = sound(chance, n);
     let key = a_key(chance, &made.keys);
     let planned = if chance.one_in(2) {
-        Model.plan_put(&made.pool, &made.map, key, chance.word())
+        Model.plan_put(&made.pool, &made.map, key, chance.word(), ADR)
     } else {
-        Model.plan_delete(&made.pool, key)
+        Model.plan_delete(&made.pool, key, ADR)
     };
     made.pool = left(&made.pool, &planned.plan, a_cut(&planned.plan, chance));
     made

@@ -14,10 +14,10 @@ pub enum Operation {
 }
 
 impl Operation {
-    pub fn plan(self, calls: &impl Calls, pool: &[u64], map: &[u8]) -> Planned {
+    pub fn plan(self, calls: &impl Calls, pool: &[u64], map: &[u8], generation: u64) -> Planned {
         match self {
-            Operation::Put(key, value) => calls.plan_put(pool, map, key, value),
-            Operation::Delete(key) => calls.plan_delete(pool, key),
+            Operation::Put(key, value) => calls.plan_put(pool, map, key, value, generation),
+            Operation::Delete(key) => calls.plan_delete(pool, key, generation),
         }
     }
 
@@ -115,10 +115,11 @@ pub fn opens_as(calls: &impl Calls, pool: &mut [u64], map: &mut [u8], table: &Ta
 
 /// Makes the first store of an opening that is cut there; false if there is none to make. "Each header open rewrites is a group."
 pub fn store_of_open(calls: &impl Calls, pool: &mut [u64]) -> Result<bool, String> {
-    let planned = calls.plan_open(pool);
-    match (planned.number, planned.plan[PLAN_COUNT], planned.plan[PLAN_FIRST]) {
-        (DONE, 0, 0) => Ok(false),
-        (DONE, 1, 1) if calls.step(pool, &planned.plan, 0) == DONE => Ok(true),
+    let planned = calls.plan_open(pool, ADR);
+    let [count, first, fences] = [PLAN_COUNT, PLAN_FIRST, PLAN_FENCES].map(|place| planned.plan[place]);
+    match (planned.number, count, first, fences) {
+        (DONE, 0, 0, 0) => Ok(false),
+        (DONE, 1, 1, 1) if calls.step(pool, &planned.plan, 0) == DONE => Ok(true),
         _ => Err(format!("plan_open: {planned:?}")),
     }
 }

@@ -48,14 +48,14 @@ pub const CASES: [&str; 19] = [
 ];
 
 impl Call {
-    /// The stores that the planning calls list, in order, or the number of a refusal. Format has no planning call: its
+    /// The stores that the planning calls list, in order, or the number of a refusal. Whole calls are for eADR alone. Format has no planning call: its
     /// two stores are document 01's.
     pub fn stores(self, calls: &impl Calls, pool: &[u64], map: &[u8]) -> Result<Vec<Store>, u64> {
         match self {
             Call::Format(n) => Ok(vec![(ROOT, 0), (0, n)]),
             Call::Open => headers(calls, pool.to_vec()),
-            Call::Put(key, value) => listed(&calls.plan_put(pool, map, key, value)),
-            Call::Delete(key) => listed(&calls.plan_delete(pool, key)),
+            Call::Put(key, value) => listed(&calls.plan_put(pool, map, key, value, EADR)),
+            Call::Delete(key) => listed(&calls.plan_delete(pool, key, EADR)),
         }
     }
 
@@ -142,7 +142,7 @@ fn headers(calls: &impl Calls, mut pool: Vec<u64>) -> Result<Vec<Store>, u64> {
     let mut stores = Vec::new();
     // One store for each node at most: more would be a plan that does not end.
     for _ in 0..pool.len() {
-        let Some(store) = listed(&calls.plan_open(&pool))?.first().copied() else {
+        let Some(store) = listed(&calls.plan_open(&pool, EADR))?.first().copied() else {
             break;
         };
         pool[store.0] = store.1;

@@ -26,12 +26,12 @@ impl Unfenced {
 }
 
 impl Calls for Unfenced {
-    fn plan_put(&self, pool: &[u64], map: &[u8], key: u64, value: u64) -> Planned {
-        self.joined(Library.plan_put(pool, map, key, value))
+    fn plan_put(&self, pool: &[u64], map: &[u8], key: u64, value: u64, generation: u64) -> Planned {
+        self.joined(Library.plan_put(pool, map, key, value, generation))
     }
 
-    fn plan_delete(&self, pool: &[u64], key: u64) -> Planned {
-        self.joined(Library.plan_delete(pool, key))
+    fn plan_delete(&self, pool: &[u64], key: u64, generation: u64) -> Planned {
+        self.joined(Library.plan_delete(pool, key, generation))
     }
 
     fn format(&self, pool: &mut [u64], map: &mut [u8], n: u64) -> u64 {
@@ -61,8 +61,8 @@ impl Calls for Unfenced {
         Library.delete(pool, map, key)
     }
 
-    fn plan_open(&self, pool: &[u64]) -> Planned {
-        Library.plan_open(pool)
+    fn plan_open(&self, pool: &[u64], generation: u64) -> Planned {
+        Library.plan_open(pool, generation)
     }
 
     fn step(&self, pool: &mut [u64], plan: &Plan, at: u64) -> u64 {
@@ -113,10 +113,10 @@ fn a_delete_in_one_group_is_found() {
 fn delete_then_put(chance: &mut Chance, fenced: bool) -> Option<u64> {
     let made = pools::sound(chance, 4);
     let (pool, mut map) = (made.pool, made.map);
-    let delete = Library.plan_delete(&pool, chance.pick(&made.keys)).plan;
+    let delete = Library.plan_delete(&pool, chance.pick(&made.keys), ADR).plan;
     let deleted = left(&pool, &delete, all(&delete));
     assert_eq!(Library.finish(&mut map, &delete), DONE);
-    let put = Library.plan_put(&deleted, &map, chance.pick(&made.keys), 1).plan;
+    let put = Library.plan_put(&deleted, &map, chance.pick(&made.keys), 1, ADR).plan;
     let (memory, plan) = match fenced {
         true => (deleted, put),
         false => run_together(&pool, &delete, &put),

@@ -1,7 +1,7 @@
 //! A bounded run of the library against the model. All memory is lent between guard pages.
 
-use wort_host::answers::{map_bytes, pool_words, ABSENT, DONE};
-use wort_host::differ::{times, Differ, BESIDE, COUNTS, MISSED, NUMBERS};
+use wort_host::answers::{map_bytes, pool_words, ABSENT, DONE, SIZE};
+use wort_host::differ::{times, Differ, BESIDE, COUNTS, MISSED, NO_GENERATION, NUMBERS, OUTRANKED};
 
 const CALLS: u64 = 2_000_000;
 
@@ -28,6 +28,10 @@ fn the_library_is_the_model() {
     for plain in MISSED {
         let met = differ.tally.contains_key(&(BESIDE, ABSENT, plain));
         assert!(met, "no quick miss where lookup gives {plain}: the run is too narrow");
+    }
+    for number in OUTRANKED {
+        let met = differ.tally.contains_key(&(NO_GENERATION, SIZE, number));
+        assert!(met, "no wrong generation where ADR gives {number}: the run is too narrow");
     }
 }
 

@@ -54,7 +54,7 @@ fn the_thirteenth_digit_is_not_compared() {
 fn the_gap_of_a_stale_node_is_not_compared() {
     let mut pool = holding(&DEEP);
     *root_header(&mut pool) = header(4, 13, DEEP[0]);
-    assert_eq!(Model.plan_open(&pool).plan[PLAN_COUNT], 1);
+    assert_eq!(Model.plan_open(&pool, EADR).plan[PLAN_COUNT], 1);
     gives(&pool, DEEP[0], (DONE, 2), (DONE, 2));
     gives(&pool, 0x0000_5678_9abc_d0f0, (ABSENT, 2), (ABSENT, 2));
     gives(&pool, 0x1234_0678_9abc_d0f0, (ABSENT, 1), (ABSENT, 2));

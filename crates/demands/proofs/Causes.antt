@@ -37,7 +37,7 @@ use Rattle.opening.proofs.Answers.{plan-modest}
 use Rattle.demands.specs.Ways.{Lookup, Quick, Delete, Put, Listing}
 use Rattle.demands.specs.Causes.{Exactly, Asks, so, not-so, Fits, FitsMap, After, Retires, Named, Causes}
 use Rattle.demands.proofs.Ways.{sized-holds, fits-holds}
-use Rattle.demands.proofs.Exactly.{wrong-holds, exactly, after-pool, after-map, asked, retires}
+use Rattle.demands.proofs.Exactly.{wrong-holds, exactly, after-pool, after-map, asked, retires, generations}
 use Rattle.demands.proofs.LookupCauses.{lookup-is, lookup-some}
 use Rattle.demands.proofs.QuickCauses.{quick-is, quick-some}
 use Rattle.demands.proofs.DeleteCauses.{delete-is, delete-some}
@@ -169,11 +169,11 @@ causes = record {
   lookup = lookup-causes;
   quick = quick-causes;
   list = list-causes;
-  plan-put = plan-put-causes;
+  plan-put = λ pool bytes k v g. generations g (putPlan pool bytes k v) _ (plan-put-causes pool bytes k v);
   put = λ pool bytes k v. rw (put-whole-number pool bytes k v) (plan-put-causes pool bytes k v);
-  plan-delete = plan-delete-causes;
+  plan-delete = λ pool k g. generations g (deletePlan pool k) _ (plan-delete-causes pool k);
   delete = λ pool bytes k. rw (delete-whole-number pool bytes k) (delete-causes pool bytes k);
-  plan-open = plan-open-causes;
+  plan-open = λ pool g. generations g (openPlan pool) _ (plan-open-causes pool);
   opening = open-causes;
   one-store = λ pool. plan-modest pool .one;
   format = λ pool bytes n. asked (format-asked pool bytes n);

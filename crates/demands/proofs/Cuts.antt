@@ -16,7 +16,7 @@ use Rattle.tree.proofs.Basics.{less?}
 use Rattle.tree.proofs.Stores.{part-all, part-none, part-take, part-nil, part-one}
 use Rattle.listing.specs.Rows.{Word}
 use Rattle.plan.specs.Plans.{allButLast, theSwitch}
-use Rattle.demands.specs.Demand3.{Op, put, delete, firstGroup, counts, InGroups, in-first, in-second, InOrder, first, Within}
+use Rattle.demands.specs.Demand3.{Generation, ADR, eADR, cutsOf, Op, put, delete, firstGroup, counts, InGroups, in-first, in-second, InOrder, first, Within}
 
 -- Only the store that counts keeps its place: of a put any of all stores but the last have arrived, or all; of a delete none, or the first and any of those
 -- after it.
@@ -140,7 +140,12 @@ module _ (k : ℕ) (h : Word k) (s : Store) (σ : List Store) where
       subst (λ (i : ℕ). Loosely (delete k h) (s ∷ σ) (take i (s ∷ σ) ++ ρ) (counts (delete k h) (length (take i (s ∷ σ) ++ ρ)) (length (s ∷ σ))))
       (sym (switch-first (length σ))) (delete-since (subst (λ (i : ℕ). Part (drop i (s ∷ σ)) ρ) (switch-first (length σ)) p))
 
-pub groups-loosely : (o : Op) (σ τ : List Store) (b : Bool) → 0 < length σ → InGroups o σ τ b → Loosely o σ τ b
+groups-loosely : (o : Op) (σ τ : List Store) (b : Bool) → 0 < length σ → InGroups o σ τ b → Loosely o σ τ b
 groups-loosely (put k v h) σ τ b many c = put-loosely k v h σ τ b many c
 groups-loosely (delete k h) [] τ b many c = absurd (omega arith)
 groups-loosely (delete k h) (s ∷ σ) τ b many c = delete-loosely k h s σ τ b c
+
+-- so are a generation's
+pub cuts-loosely : (g : Generation) (o : Op) (σ τ : List Store) (b : Bool) → 0 < length σ → cutsOf g o σ τ b → Loosely o σ τ b
+cuts-loosely ADR o σ τ b many c = groups-loosely o σ τ b many c
+cuts-loosely eADR o σ τ b many c = groups-loosely o σ τ b many (in-order-groups o σ τ b c)

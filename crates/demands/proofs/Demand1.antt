@@ -9,12 +9,13 @@ use types.Run as run
 use lib.Dec.{eqb, leb, ltb}
 use lib.ListN.{length, getD, set, length-set, length-replicate}
 use Rattle.digits.specs.Choice.{pick}
+use Rattle.digits.proofs.Choice.{pick-case}
 use Rattle.pool.specs.Sizes.{capacityOf, bytesOf}
 use Rattle.pool.specs.declared.Size.{Size}
 use Rattle.pool.specs.declared.Size.the-variants.{Holds, Wrong}
 use Rattle.tree.proofs.Basics.{Same?, same, other, same?}
 use Rattle.tree.proofs.Stores.{Words}
-use Rattle.plan.specs.Plans.{allButLast, theSwitch, oneGroup, After, after, Decided, storeOf, stepOf, decided, refused, plannedOf}
+use Rattle.plan.specs.Plans.{allButLast, theSwitch, oneGroup, adr, known, fencesOf, fenced, After, after, Decided, storeOf, stepOf, decided, refused, plannedOf, decidedFor, plannedFor}
 use Rattle.finishing.specs.Finishes.{storesOf, finishOf}
 use Rattle.plan.specs.declared.Plan.{Plan}
 use Rattle.plan.specs.declared.Planned.{Planned}
@@ -37,6 +38,7 @@ use Rattle.opening.specs.Openings.{mendFirst, openIn, openPlan, openOf}
 use Rattle.opening.specs.Openings as opening
 use Rattle.opening.proofs.Answers.{plan-modest, open-number, open-size, open-damage, open-length, open-map-length}
 use Rattle.handing.specs.Plans.{planIn}
+use Rattle.demands.proofs.ByPlan.{judged}
 use Rattle.demands.specs.Demand1.{OneOf, LookupSays, ListSays, Plans, Whole, OpenSays, Stays, Demand1}
 
 -- ---- numbers of a list
@@ -91,16 +93,28 @@ module _ (l : List ℕ) where
   finish-stays (FreesBoth a b) = stores-stays a b 0
 
 -- ---- planning calls
--- a plan of what is decided
-module _ (group : ℕ → ℕ) (empty : group 0 ≡ 0) (numbers pool : List ℕ) (d : Decided) (few : length (d .stores) ≤ 21) (inside : Words (λ w. w < length pool) (d .stores)) where
-  plans : OneOf numbers (d .number) → ((d .number ≡ 0 → ⊥) → d ≡ refused (d .number)) → {p : Planned} → p ≡ plannedOf group d → Plans numbers pool p
-  plans o f e = rw e (record {
-    number = o;
-    refusal = λ z. ap (λ (x : Decided). plannedOf group x .plan) (f z) ∙ rw empty;
-    most = few;
-    inside = λ i h. rw (plan-word group (d .stores) (d .effect) few i) (words-at (λ w. w < length pool) (d .stores) i h inside);
-    unused = plan-unused group (d .stores) (d .effect) few;
-  })
+-- a plan of what is decided, for a generation
+module _ (group : ℕ → ℕ) (empty : group 0 ≡ 0) (g : ℕ) (numbers pool : List ℕ) (one : OneOf numbers 1) (d : Decided) where
+  -- no store, no fence
+  unfenced : (first : ℕ) → fencesOf g first 0 ≡ 0
+  unfenced first = pick-case (λ (n : ℕ). n ≡ 0) (eqb g adr) (λ e. refl) (λ e. refl)
+
+  plans : length (d .stores) ≤ 21 → Words (λ w. w < length pool) (d .stores) → OneOf numbers (d .number)
+      → ((d .number ≡ 0 → ⊥) → d ≡ refused (d .number)) → {p : Planned} → p ≡ plannedFor g group d → Plans numbers pool p
+  unfolding Words
+  plans few inside o f e =
+      let d′ = decidedFor g d in
+      let few′ = judged g d (λ x. length (x .stores) ≤ 21) few (omega arith) in
+      let inside′ = judged g d (λ x. Words (λ w. w < length pool) (x .stores)) inside tt in
+      rw e (record {
+        number = judged g d (λ x. OneOf numbers (x .number)) o one;
+        refusal = λ z.
+            ap (λ (x : Decided). fenced g (plannedOf group x) .plan) (judged g d (λ x. (x .number ≡ 0 → ⊥) → x ≡ refused (x .number)) f (λ h. refl) z)
+            ∙ rw (unfenced (group 0), empty);
+        most = few′;
+        inside = λ i h. rw (plan-word group (d′ .stores) (d′ .effect) few′ i) (words-at (λ w. w < length pool) (d′ .stores) i h inside′);
+        unused = plan-unused group (d′ .stores) (d′ .effect) few′;
+      })
 
 open-plan-refused : (pool : List ℕ) → (openPlan pool .number ≡ 0 → ⊥) → openPlan pool ≡ refused (openPlan pool .number)
 unfolding openPlan
@@ -213,18 +227,19 @@ opens pool bytes = record {
     go h (other e q) = rw (open-damage pool bytes (omega (arith, open-number pool bytes, e, h))) (refl, refl, refl)
 
 pub demand1 : Demand1
+unfolding OneOf
 demand1 = record {
   lookup = λ pool k a e. rw e (looked (lookup-answers pool k));
   quick = λ pool k a e. rw e (looked (quick-answers pool k));
   list = λ pool from ks vs s e. rw e (shows pool from ks vs (list-answers pool from ks vs));
-  plan-put = λ pool map k v p.
-      plans allButLast refl (0 ∷ 1 ∷ 2 ∷ 4 ∷ 7 ∷ []) pool (putPlan pool map k v) (put-few pool map k v) (put-inside pool map k v)
+  plan-put = λ pool map k v g p.
+      plans allButLast refl g (0 ∷ 1 ∷ 2 ∷ 4 ∷ 7 ∷ []) pool (inr (inl refl)) (putPlan pool map k v) (put-few pool map k v) (put-inside pool map k v)
       (one-of (0 ∷ 1 ∷ 2 ∷ 4 ∷ 7 ∷ []) (putPlan pool map k v .number) (put-number pool map k v)) (put-refusal pool map k v);
-  plan-delete = λ pool k p.
-      plans theSwitch refl (0 ∷ 1 ∷ 2 ∷ 3 ∷ []) pool (deletePlan pool k) (delete-few pool k) (delete-inside pool k)
+  plan-delete = λ pool k g p.
+      plans theSwitch refl g (0 ∷ 1 ∷ 2 ∷ 3 ∷ []) pool (inr (inl refl)) (deletePlan pool k) (delete-few pool k) (delete-inside pool k)
       (one-of (0 ∷ 1 ∷ 2 ∷ 3 ∷ []) (deletePlan pool k .number) (delete-number pool k)) (delete-refusal pool k);
-  plan-open = λ pool p.
-      plans oneGroup refl (0 ∷ 1 ∷ 2 ∷ []) pool (openPlan pool) (omega (arith, plan-modest pool .one)) (plan-modest pool .inside)
+  plan-open = λ pool g p.
+      plans oneGroup refl g (0 ∷ 1 ∷ 2 ∷ []) pool (inr (inl refl)) (openPlan pool) (omega (arith, plan-modest pool .one)) (plan-modest pool .inside)
       (up-to-two (openPlan pool .number) (plan-modest pool .number≤)) (open-plan-refused pool);
   put = λ pool map k v l e. rw e (record {
     number = subst (OneOf (0 ∷ 1 ∷ 2 ∷ 4 ∷ 7 ∷ [])) (sym (put-whole-number pool map k v))

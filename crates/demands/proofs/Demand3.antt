@@ -15,7 +15,6 @@ use Rattle.pool.specs.declared.Size.the-variants.{Holds, Wrong}
 use Rattle.pool.specs.Places.{wordAt}
 use Rattle.pool.proofs.Sizes.{size-fits}
 use Rattle.tree.specs.Tree.{empty, mult, find}
-use Rattle.tree.specs.Stores.{Store}
 use Rattle.tree.proofs.Basics.{Same?, same, other, same?}
 use Rattle.layout.proofs.Held.{held-empty}
 use Rattle.held.specs.Ways.{mem}
@@ -25,11 +24,11 @@ use Rattle.writing.proofs.Wholes.{size-same}
 use Rattle.opening.specs.Openings.{Left, openOf, openSteps}
 use Rattle.opening.proofs.HeldOpens.{steps-pool, open-is, all-mended, reached-marked}
 use Rattle.demands.specs.Tables.{Table, blank}
-use Rattle.demands.specs.Demand3.{Op, Cut, planned, InGroups, Reach, fresh, existing, done, stepped, refused, cut, lost, reopening, opened, Promised, Demand3, Begins}
+use Rattle.demands.specs.Demand3.{Generation, Op, planned, Reach, fresh, existing, done, stepped, refused, cut, lost, reopening, opened, Promised, Demand3, Begins}
 use Rattle.demands.proofs.States.{State}
 use Rattle.demands.proofs.Readings.{state-reads, state-reading, state-capacity, existing-state}
 use Rattle.demands.proofs.Operations.{turns, done-state, stepped-state, refused-state, cut-state}
-use Rattle.demands.proofs.Cuts.{Loosely, groups-loosely}
+use Rattle.demands.proofs.Cuts.{cuts-loosely}
 
 -- ---- a freshly formatted pool
 -- its root is empty
@@ -128,27 +127,24 @@ promised {n = n} {pool = pool} {T = T} S = record {
 }
 
 -- ---- every state that is reached
-module _ (C : Cut) (within : (o : Op) (σ τ : List Store) (b : Bool) → 0 < length σ → C o σ τ b → Loosely o σ τ b) where
-  pub stores-some : {n : ℕ} {pool map : List ℕ} {T : Table} (S : State n pool (some map) T) (o : Op) → planned o pool map .number ≡ 0
-      → 0 < length (planned o pool map .stores)
-  stores-some S o z =
-      let U = turns S o z in
-      rw (U .plan) (omega (arith, length-append (U .before) (U .switch ∷ U .rest)))
+pub stores-some : {n : ℕ} {pool map : List ℕ} {T : Table} (S : State n pool (some map) T) (o : Op) → planned o pool map .number ≡ 0
+    → 0 < length (planned o pool map .stores)
+stores-some S o z =
+    let U = turns S o z in
+    rw (U .plan) (omega (arith, length-append (U .before) (U .switch ∷ U .rest)))
 
-  pub reach-state : {B : List ℕ → Type 0} {n : ℕ} {pool : List ℕ} {map : Option (List ℕ)} {T : Table} → Reach B C n pool map T → State n pool map T
-  reach-state {n = n} (fresh pool map z) = fresh-state n pool map z
-  reach-state (existing {pool = pool} {T = T} s e b ok r) = subst (λ (m : ℕ). State m pool none T) e (existing-state pool s T ok r)
-  reach-state (done o r z) = done-state (reach-state r) o z
-  reach-state (stepped o r z) = stepped-state (reach-state r) o z
-  reach-state (refused o r z) = refused-state (reach-state r) o z
-  reach-state (cut {pool = pool} {map = map} o {τ = τ} {b = b} r z c) =
-      let S = reach-state r in cut-state S o z (within o (planned o pool map .stores) τ b (stores-some S o z) c)
-  reach-state (lost r) = let S = reach-state r in unmapped S
-  reach-state {n = n} (reopening {pool = pool} k r) = let S = reach-state r in reopened S k
-  reach-state {n = n} (opened {pool = pool} bytes r e) = let S = reach-state r in open-state S bytes e
+pub reach-state : (g : Generation) {B : List ℕ → Type 0} {n : ℕ} {pool : List ℕ} {map : Option (List ℕ)} {T : Table} → Reach B g n pool map T
+    → State n pool map T
+reach-state g {n = n} (fresh pool map z) = fresh-state n pool map z
+reach-state g (existing {pool = pool} {T = T} s e b ok r) = subst (λ (m : ℕ). State m pool none T) e (existing-state pool s T ok r)
+reach-state g (done o w r z) = done-state (reach-state g r) o z
+reach-state g (stepped o r z) = stepped-state (reach-state g r) g o z
+reach-state g (refused o w r z) = refused-state (reach-state g r) o z
+reach-state g (cut {pool = pool} {map = map} o τ b r z c) =
+    let S = reach-state g r in cut-state S o z (cuts-loosely g o (planned o pool map .stores) τ b (stores-some S o z) c)
+reach-state g (lost r) = let S = reach-state g r in unmapped S
+reach-state g {n = n} (reopening {pool = pool} k r) = let S = reach-state g r in reopened S k
+reach-state g {n = n} (opened {pool = pool} bytes u r e) = let S = reach-state g r in open-state S bytes e
 
-  pub demand3-of : Demand3 C
-  demand3-of n pool map T r = promised (reach-state r)
-
-pub demand3-groups : Demand3 InGroups
-demand3-groups = demand3-of InGroups groups-loosely
+pub demand3 : (g : Generation) → Demand3 g
+demand3 g n pool map T r = promised (reach-state g r)

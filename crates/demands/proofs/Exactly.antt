@@ -1,6 +1,7 @@
 -- How an answer is shown to have its cause and no other: every cause leads to it, and there is a cause. Sizes are judged first.
 -- Assumes nothing.
 use mathlib.Core.Path.{_≡_, refl, sym, ap, _∙_, subst}
+use mathlib.Core.Logic.{_↔_, _⊎_, inl, inr, ⊎-elim}
 use mathlib.Core.List.{List}
 use Prim.Native.Nat.{ℕ}
 use native.Mathlib.Omega.{arith}
@@ -11,9 +12,9 @@ use Rattle.digits.specs.Choice.{pick}
 use Rattle.pool.specs.Sizes.{capacityOf, bytesOf}
 use Rattle.pool.specs.declared.Size.{Size}
 use Rattle.pool.specs.declared.Size.the-variants.{Holds, Wrong}
-use Rattle.plan.specs.Plans.{Decided, refused}
+use Rattle.plan.specs.Plans.{adr, eadr, Decided, refused, decidedFor}
 use Rattle.tree.proofs.Basics.{Same?, same, other as differs, same?}
-use Rattle.demands.specs.Causes.{Exactly, Asks, so, not-so, Fits, FitsMap, After, wrong, right, Retires, retired, other}
+use Rattle.demands.specs.Causes.{Exactly, Asks, so, not-so, Fits, FitsMap, After, wrong, right, Retires, retired, other, Generations, unknown, known}
 use Rattle.demands.proofs.Ways.{fits-holds, holds-fits}
 
 pub wrong-holds : {s : Size} {n : ℕ} → s ≡ Wrong → s ≡ Holds n → ⊥
@@ -88,3 +89,23 @@ retires d v C E = go (same? v 0)
     go : Same? v 0 → Exactly (pick (eqb v 0) (refused 7) d .number) (Retires v C)
     go (same e q) = rw q (λ a. ((λ z. subst (Retires v C) z (retired e)), one e a))
     go (differs n q) = rw q (λ a. ((λ z. other n (E a .0 z)), back n a))
+
+-- 1 comes first where there is no such generation, and nowhere else
+pub generations : (g : ℕ) (d : Decided) (C : ℕ → Type 0) → Exactly (d .number) C → Exactly (decidedFor g d .number) (Generations g C)
+generations g d C E = go (same? g adr) (same? g eadr)
+  where
+    of-known : (g ≡ adr) ⊎ (g ≡ eadr) → (a : ℕ) → (d .number ≡ a) ↔ Generations g C a
+    of-known k a = ((λ z. known k (E a .0 z)), back a)
+      where
+        back : (a : ℕ) → Generations g C a → d .number ≡ a
+        back a (unknown n m) = absurd (⊎-elim n m k)
+        back a (known k′ c) = E a .1 c
+
+    go : Same? g adr → Same? g eadr → Exactly (decidedFor g d .number) (Generations g C)
+    go (same e q) s = rw q (of-known (inl e))
+    go (differs n q) (same e r) = rw (q, r) (of-known (inr e))
+    go (differs n q) (differs m r) = rw (q, r) (λ a. ((λ z. subst (Generations g C) z (unknown n m)), none a))
+      where
+        none : (a : ℕ) → Generations g C a → 1 ≡ a
+        none a (unknown n′ m′) = refl
+        none a (known k c) = absurd (⊎-elim n m k)

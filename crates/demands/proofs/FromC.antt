@@ -1,7 +1,7 @@
 -- A plan from C comes back as the plan that went out. Assumes nothing.
 use mathlib.Core.Path.{_≡_, _∙_}
 use Prim.Native.Nat.{ℕ}
-use Rattle.plan.specs.Plans.{allButLast, theSwitch, oneGroup, Decided, plannedOf}
+use Rattle.plan.specs.Plans.{allButLast, theSwitch, oneGroup, Decided, decidedFor, plannedFor}
 use Rattle.plan.proofs.Laws.{plan-places}
 use Rattle.rules.specs.Puts.{putPlan}
 use Rattle.rules.specs.Deletes.{deletePlan}
@@ -11,10 +11,11 @@ use Rattle.handing.proofs.Returns.{plan-returns, finish-returns, step-unread, f
 use Rattle.demands.specs.FromC.{takenIn, Returns}
 
 -- every plan that is decided has 21 places
-planned-returns : (group : ℕ → ℕ) (d : Decided) (w : PlannedWords) → HandedOut (λ p. p ≡ plannedOf group d) w → takenIn w ≡ plannedOf group d
-planned-returns group d w h =
-    let places = plan-places group (d .stores) (d .effect) in
-    rw (h .2, h .1, plan-returns (plannedOf group d .plan) (places .0) (places .1))
+planned-returns : (g : ℕ) (group : ℕ → ℕ) (d : Decided) (w : PlannedWords) → HandedOut (λ p. p ≡ plannedFor g group d) w → takenIn w ≡ plannedFor g group d
+planned-returns g group d w h =
+    let d′ = decidedFor g d in
+    let places = plan-places group (d′ .stores) (d′ .effect) in
+    rw (h .2, h .1, plan-returns (plannedFor g group d .plan) (places .0) (places .1))
 
 pub returns : Returns
 returns = record {
@@ -23,7 +24,7 @@ returns = record {
   finish = λ p map a e. e ∙ finish-returns p map;
   step-unread = λ words x y at pool a e. e ∙ step-unread words x y at pool;
   finish-unread = λ words x y map a e. e ∙ finish-unread words x y map;
-  put = λ pool map k v w. planned-returns allButLast (putPlan pool map k v) w;
-  delete = λ pool k w. planned-returns theSwitch (deletePlan pool k) w;
-  opening = λ pool w. planned-returns oneGroup (openPlan pool) w;
+  put = λ pool map k v g w. planned-returns g allButLast (putPlan pool map k v) w;
+  delete = λ pool k g w. planned-returns g theSwitch (deletePlan pool k) w;
+  opening = λ pool g w. planned-returns g oneGroup (openPlan pool) w;
 }

@@ -24,5 +24,6 @@ pub mod Question
 pub mod Opening
 pub mod Quick
 pub mod Stales
+pub mod Covers
 pub mod Claims
 pub mod Examples

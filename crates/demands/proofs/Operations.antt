@@ -2,7 +2,7 @@
 -- Assumes nothing.
 use mathlib.Core.Path.{_≡_, refl, sym, ap, _∙_, subst}
 use mathlib.Core.Bool.{Bool, true, false}
-use mathlib.Core.Logic.{_≢_}
+use mathlib.Core.Logic.{_≢_, inl, inr}
 use mathlib.Core.Option.{none, some}
 use mathlib.Core.List.{List, [], _∷_, _++_}
 use Prim.Native.Nat.{ℕ, zero, suc, _+_, _-_, _<_}
@@ -36,7 +36,8 @@ use Rattle.rules.proofs.Fits.{put-inside, put-named, delete-inside, delete-name
 use Rattle.rules.proofs.HeldPuts.{PutIs, full, does, put-is, put-retired}
 use Rattle.rules.proofs.HeldDeletes.{DeleteIs, absent, does as deletes, delete-is}
 use Rattle.demands.specs.Tables.{Table, given, without, Names}
-use Rattle.demands.specs.Demand3.{Op, put, delete, planned, whole, byPlan, effect}
+use Rattle.demands.specs.ByPlan.{Known}
+use Rattle.demands.specs.Demand3.{Generation, ADR, eADR, numberOf, Op, put, delete, planned, whole, byPlan, effect}
 use Rattle.demands.proofs.Cuts.{Loosely, put-before, put-whole, delete-before, delete-since}
 use Rattle.demands.proofs.ByPlan.{put-carried, delete-carried}
 use Rattle.demands.proofs.States.{State, fits, tree-names, stored, finish-marks}
@@ -106,6 +107,10 @@ pub record Turns (o : Op) (n : ℕ) (pool : List ℕ) (t : Tree ℕ) (T : Table)
   pub inside : Words (λ w. w < length pool) (before ++ switch ∷ rest)
   pub above : Words (λ w. 0 < w) (before ++ switch ∷ rest)
   pub named : Inside marks (bytesOf n)
+
+known-number : (g : Generation) → Known (numberOf g)
+known-number ADR = inl refl
+known-number eADR = inr refl
 
 module _ {n : ℕ} {pool bytes : List ℕ} {T : Table} (S : State n pool (some bytes) T) where
   abbrev t : Tree ℕ
@@ -201,9 +206,10 @@ module _ {n : ℕ} {pool bytes : List ℕ} {T : Table} (S : State n pool (some b
   whole-refused o z = whole-is o ∙ rw (ne-eqb (planned o pool bytes .number) 0 z)
 
   -- the same by its plan
-  pub by-plan-whole : (o : Op) → byPlan o pool bytes ≡ whole o pool bytes
-  by-plan-whole (put k v h) = put-carried pool bytes k v
-  by-plan-whole (delete k h) = delete-carried pool bytes k (λ m e. M .size ∙ ap bytesOf (holds-same (sym (fits S) ∙ e)))
+  pub by-plan-whole : (g : Generation) (o : Op) → byPlan g o pool bytes ≡ whole o pool bytes
+  by-plan-whole g (put k v h) = put-carried (numberOf g) (known-number g) pool bytes k v
+  by-plan-whole g (delete k h) =
+      delete-carried pool bytes k (λ m e. M .size ∙ ap bytesOf (holds-same (sym (fits S) ∙ e))) (numberOf g) (known-number g)
     where
       holds-same : {i j : ℕ} → _≡_ {A = Size} (Holds i) (Holds j) → i ≡ j
       holds-same e = cc
@@ -233,9 +239,10 @@ module _ {n : ℕ} {pool bytes : List ℕ} {T : Table} (S : State n pool (some b
       let p : planned o pool bytes .number ≡ 0 = sym (whole-number o) ∙ z in
       rw (whole-done o p) (made-state o p)
 
-  pub stepped-state : (o : Op) → planned o pool bytes .number ≡ 0 → State n (byPlan o pool bytes .pool) (some (byPlan o pool bytes .map)) (effect o T)
-  stepped-state o p =
-      subst (λ (l : Left). State n (l .pool) (some (l .map)) (effect o T)) (sym (by-plan-whole o)) (done-state o (whole-number o ∙ p))
+  pub stepped-state : (g : Generation) (o : Op) → planned o pool bytes .number ≡ 0
+      → State n (byPlan g o pool bytes .pool) (some (byPlan g o pool bytes .map)) (effect o T)
+  stepped-state g o p =
+      subst (λ (l : Left). State n (l .pool) (some (l .map)) (effect o T)) (sym (by-plan-whole g o)) (done-state o (whole-number o ∙ p))
 
   pub refused-state : (o : Op) → (whole o pool bytes .done .number ≡ 0 → ⊥) → State n (whole o pool bytes .pool) (some (whole o pool bytes .map)) T
   refused-state o z = rw (whole-refused o (λ p. z (whole-number o ∙ p))) S

@@ -12,17 +12,15 @@ use borrow.Author.Tests.{eq-eqb, ne-eqb, le-ltb}
 use lib.ListN.{length, getD, length-map, List·getD-append, List·getD-map}
 use lib.Seq.{take-all}
 use Rattle.tree.specs.Listing.{Entry, Every, Rising, look}
-use Rattle.tree.specs.Stores.{Store}
 use Rattle.tree.proofs.Basics.{Same?, same, other, same?}
 use Rattle.layout.proofs.Room.{leaves-fit}
 use Rattle.held.specs.Ways.{mem}
 use Rattle.finding.specs.Lookups.{Answer, LookupGives, QuickGives, Finds}
 use Rattle.listing.specs.Rows.{upFrom, shownRows}
 use Rattle.demands.specs.Tables.{Table, Reads}
-use Rattle.demands.specs.Demand3.{Op, Cut, InGroups}
+use Rattle.demands.specs.Demand3.{Generation}
 use Rattle.demands.specs.Question.{InListing, Openable, ListedIffOpenable}
 use Rattle.demands.proofs.Readings.{state-reads, rows-leaves}
-use Rattle.demands.proofs.Cuts.{Loosely, groups-loosely}
 use Rattle.demands.proofs.Demand3.{reach-state}
 
 -- ---- rows
@@ -89,20 +87,16 @@ by-either R k (inl e) = rw e (R .lookup k)
 by-either R k (inr e) = rw e (R .quick k)
 
 -- ---- every state that is reached
-module _ (C : Cut) (within : (o : Op) (σ τ : List Store) (b : Bool) → 0 < length σ → C o σ τ b → Loosely o σ τ b) where
-  listed-iff-openable-of : ListedIffOpenable C
-  listed-iff-openable-of n pool bytes T r ks vs room equal s e k v a q =
-      let S = reach-state C within r in
-      let R = state-reads S in
-      let few : length (R .rows) ≤ length ks = omega (arith, rows-leaves S R, leaves-fit 16 n (mem pool) (S .t) (S .holds .held)) in
-      let shown : s ≡ shownRows (R .rows) ks vs =
-      e ∙ R .listing 0 ks vs (λ z. omega (arith, S .pos)) equal ∙ ap (λ (l : List (Entry ℕ)). shownRows l ks vs) (up-from-zero (R .rows)) in
-      let row = listed-row (R .rows) ks vs few k v in
-      let found = openable-found (T k) a (by-either R k q) v in
-      rw shown (
-        (λ l. let i = row .0 l in found .0 (sym (R .written .same k) ∙ row-look (R .rows) (R .written .rising) k v (i .0) (i .1) (i .2) (i .3))),
-        (λ o. row .1 (look-row (R .rows) k v (R .written .same k ∙ found .1 o))),
-      )
-
-pub listed-iff-openable : ListedIffOpenable InGroups
-listed-iff-openable = listed-iff-openable-of InGroups groups-loosely
+pub listed-iff-openable : (g : Generation) → ListedIffOpenable g
+listed-iff-openable g n pool bytes T r ks vs room equal s e k v a q =
+    let S = reach-state g r in
+    let R = state-reads S in
+    let few : length (R .rows) ≤ length ks = omega (arith, rows-leaves S R, leaves-fit 16 n (mem pool) (S .t) (S .holds .held)) in
+    let shown : s ≡ shownRows (R .rows) ks vs =
+    e ∙ R .listing 0 ks vs (λ z. omega (arith, S .pos)) equal ∙ ap (λ (l : List (Entry ℕ)). shownRows l ks vs) (up-from-zero (R .rows)) in
+    let row = listed-row (R .rows) ks vs few k v in
+    let found = openable-found (T k) a (by-either R k q) v in
+    rw shown (
+      (λ l. let i = row .0 l in found .0 (sym (R .written .same k) ∙ row-look (R .rows) (R .written .rising) k v (i .0) (i .1) (i .2) (i .3))),
+      (λ o. row .1 (look-row (R .rows) k v (R .written .same k ∙ found .1 o))),
+    )

@@ -33,11 +33,11 @@ use Rattle.writing.specs.Calls.{Left, formatOf, formatIn}
 use Rattle.opening.specs.Openings.{openOf, openSteps}
 use Rattle.opening.proofs.HeldOpens.{steps-pool, steps-stale}
 use Rattle.demands.specs.Tables.{Table}
-use Rattle.demands.specs.Demand3.{Op, Cut, planned, whole, InGroups, AtMostOneStale}
+use Rattle.demands.specs.Demand3.{Generation, Op, planned, whole, AtMostOneStale}
 use Rattle.demands.specs.Demand3.{Reach, fresh, existing, done, stepped, refused, cut, lost, reopening, opened}
 use Rattle.demands.proofs.States.{State, fits, stored}
 use Rattle.demands.proofs.Operations.{part-first, part-both, Turns, turns, cut-case}
-use Rattle.demands.proofs.Cuts.{Loosely, groups-loosely}
+use Rattle.demands.proofs.Cuts.{Loosely, cuts-loosely}
 use Rattle.demands.proofs.Operations.{whole-number, by-plan-whole, whole-done, whole-refused}
 use Rattle.demands.proofs.Opening.{opens}
 use Rattle.demands.proofs.Demand3.{root-blank, open-state, stores-some, reach-state, promised}
@@ -134,29 +134,29 @@ module _ {n : ℕ} {pool bytes : List ℕ} {T : Table} (S : State n pool (some b
       (W .switches .since τ p) (W .switches .stales straight .since τ p))
 
 -- ---- every state that is reached
-module _ (C : Cut) (within : (o : Op) (σ τ : List Store) (b : Bool) → 0 < length σ → C o σ τ b → Loosely o σ τ b) where
-  reach-stales : {n : ℕ} {pool : List ℕ} {map : Option (List ℕ)} {T : Table} → Reach Straight C n pool map T → Stales n pool map
+module _ (g : Generation) where
+  reach-stales : {n : ℕ} {pool : List ℕ} {map : Option (List ℕ)} {T : Table} → Reach Straight g n pool map T → Stales n pool map
   reach-stales {n = n} (fresh pool map z) = all-fresh n _ _ (root-empty n (formatOf pool map n .pool) (format-root n pool map z))
   reach-stales {n = n} (existing {pool = pool} s e b ok r) =
       all-fresh n _ _ (straight-none n pool (s .size ∙ ap Holds e) b)
-  reach-stales {n = n} (done {pool = pool} {map = map} o r z) =
-      let S = reach-state C within r in
+  reach-stales {n = n} (done {pool = pool} {map = map} o w r z) =
+      let S = reach-state g r in
       let p : planned o pool map .number ≡ 0 = sym (whole-number S o) ∙ z in
       all-fresh n _ _ (rw (whole-done S o p) (made-none S (reach-stales r .none-there map refl) o p))
   reach-stales {n = n} (stepped {pool = pool} {map = map} o r z) =
-      let S = reach-state C within r in
+      let S = reach-state g r in
       all-fresh n _ _
-      (subst (λ (l : Left). (j : ℕ) → Stale (l .pool) n j → ⊥) (sym (by-plan-whole S o ∙ whole-done S o z))
+      (subst (λ (l : Left). (j : ℕ) → Stale (l .pool) n j → ⊥) (sym (by-plan-whole S g o ∙ whole-done S o z))
       (made-none S (reach-stales r .none-there map refl) o z))
-  reach-stales {n = n} (refused {map = map} o r z) =
-      let S = reach-state C within r in
+  reach-stales {n = n} (refused {map = map} o w r z) =
+      let S = reach-state g r in
       all-fresh n _ _ (rw (whole-refused S o (λ p. z (whole-number S o ∙ p))) (reach-stales r .none-there map refl))
-  reach-stales (cut {pool = pool} {map = map} o {τ = τ} {b = b} r z c) =
-      let S = reach-state C within r in
-      unmapped (cut-only S (reach-stales r .none-there map refl) o z (within o (planned o pool map .stores) τ b (stores-some C within S o z) c))
+  reach-stales (cut {pool = pool} {map = map} o τ b r z c) =
+      let S = reach-state g r in
+      unmapped (cut-only S (reach-stales r .none-there map refl) o z (cuts-loosely g o (planned o pool map .stores) τ b (stores-some S o z) c))
   reach-stales (lost r) = let X = reach-stales r in unmapped (X .y, X .only)
   reach-stales {n = n} (reopening {pool = pool} k r) =
-      let S = reach-state C within r in
+      let S = reach-state g r in
       let X = reach-stales r in
       let O : OneStale n (mem pool) (S .t) = record {
         slot = n + X .y;
@@ -165,13 +165,10 @@ module _ (C : Cut) (within : (o : Op) (σ τ : List Store) (b : Bool) → 0 < le
       let O′ = steps-stale n (S .pos) (S .cap) (S .t) k pool (S .holds) O in
       let P = steps-pool n (S .pos) (S .cap) (S .t) k pool (S .holds) in
       unmapped (O′ .slot - n, λ j e. omega (arith, one-stale (openSteps k pool) n (S .t) (P .held) O′ j e))
-  reach-stales {n = n} (opened {pool = pool} bytes r e) =
-      let S = reach-state C within r in
+  reach-stales {n = n} (opened {pool = pool} bytes u r e) =
+      let S = reach-state g r in
       let done-there : openOf pool bytes .answer .number ≡ 0 = promised S .opens bytes e in
       all-fresh n _ _ (straight-none n (openOf pool bytes .pool) (fits (open-state S bytes e)) (opens .restores pool bytes done-there .after))
 
-  one-stale-of : AtMostOneStale C
-  one-stale-of n pool map T r j j′ e e′ = let X = reach-stales r in X .only j e ∙ sym (X .only j′ e′)
-
-pub one-stale-groups : AtMostOneStale InGroups
-one-stale-groups = one-stale-of InGroups groups-loosely
+  pub at-most-one : AtMostOneStale g
+  at-most-one n pool map T r j j′ e e′ = let X = reach-stales r in X .only j e ∙ sym (X .only j′ e′)

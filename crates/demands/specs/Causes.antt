@@ -3,13 +3,13 @@
 -- Assumes nothing.
 use mathlib.Core.Path.{_≡_}
 use mathlib.Core.Bool.{false}
-use mathlib.Core.Logic.{_↔_, _≢_}
+use mathlib.Core.Logic.{_↔_, _≢_, _⊎_}
 use mathlib.Core.List.{List}
 use Prim.Native.Nat.{ℕ, _≤_, _<_}
 use lib.ListN.{length, getD}
 use Rattle.pool.specs.Sizes.{Sized, bytesOf}
 use Rattle.pool.specs.Places.{wordAt}
-use Rattle.plan.specs.Plans.{stepOf}
+use Rattle.plan.specs.Plans.{allButLast, theSwitch, oneGroup, adr, eadr, plannedFor, stepOf}
 use Rattle.plan.specs.declared.Plan.{Plan}
 use Rattle.plan.specs.declared.Effect.{Effect}
 use Rattle.plan.specs.declared.Effect.the-variants.{Nothing, TakesLeaf, TakesBoth, FreesLeaf, FreesBoth}
@@ -57,17 +57,26 @@ pub data Retires (v : ℕ) (Cause : ℕ → Type 0) : ℕ → Type 0 where
   retired : v ≡ 0 → Retires v Cause 7
   other : {x : ℕ} → v ≢ 0 → Cause x → Retires v Cause x
 
+-- 02 (v): "Refusals: any other generation is 1, before all else."
+pub data Generations (g : ℕ) (Cause : ℕ → Type 0) : ℕ → Type 0 where
+  unknown : g ≢ adr → g ≢ eadr → Generations g Cause 1
+  known : {x : ℕ} → (g ≡ adr) ⊎ (g ≡ eadr) → Cause x → Generations g Cause x
+
 pub record Causes : Type 0 where
   pub lookup : (pool : List ℕ) (k : ℕ) → Exactly (lookupOf pool k) (After (answer 1 0 0) (Fits pool) (λ n. Lookup pool n k))
   pub quick : (pool : List ℕ) (k : ℕ) → Exactly (quickOf pool k) (After (answer 1 0 0) (Fits pool) (λ n. Quick pool n k))
   pub list : (pool : List ℕ) (from : ℕ) (ks vs : List ℕ)
       → Exactly (listOf pool from ks vs .answer) (After (listed 1 0 false) (Fits pool) (λ n. Listing pool n from (length ks) (length vs)))
-  pub plan-put : (pool bytes : List ℕ) (k v : ℕ) → Exactly (putPlan pool bytes k v .number) (After 1 (FitsMap pool bytes) (λ n. Retires v (Put pool n bytes k)))
+  pub plan-put : (pool bytes : List ℕ) (k v g : ℕ)
+      → Exactly (plannedFor g allButLast (putPlan pool bytes k v) .number)
+      (Generations g (After 1 (FitsMap pool bytes) (λ n. Retires v (Put pool n bytes k))))
   pub put : (pool bytes : List ℕ) (k v : ℕ) → Exactly (putOf pool bytes k v .done .number) (After 1 (FitsMap pool bytes) (λ n. Retires v (Put pool n bytes k)))
-  pub plan-delete : (pool : List ℕ) (k : ℕ) → Exactly (deletePlan pool k .number) (After 1 (Fits pool) (λ n. Delete pool n k))
+  pub plan-delete : (pool : List ℕ) (k g : ℕ)
+      → Exactly (plannedFor g theSwitch (deletePlan pool k) .number) (Generations g (After 1 (Fits pool) (λ n. Delete pool n k)))
   pub delete : (pool bytes : List ℕ) (k : ℕ) → Exactly (deleteOf pool bytes k .done .number) (After 1 (FitsMap pool bytes) (λ n. Delete pool n k))
   -- "Open checks soundness of the whole pool first"
-  pub plan-open : (pool : List ℕ) → Exactly (openPlan pool .number) (After 1 (Fits pool) (λ n. Asks (Sound pool) 2))
+  pub plan-open : (pool : List ℕ) (g : ℕ)
+      → Exactly (plannedFor g oneGroup (openPlan pool) .number) (Generations g (After 1 (Fits pool) (λ n. Asks (Sound pool) 2)))
   pub opening : (pool bytes : List ℕ) → Exactly (openOf pool bytes .answer .number) (After 1 (FitsMap pool bytes) (λ n. Asks (Sound pool) 2))
   -- "A planning call answers the first such store as a plan, or a plan of none"
   pub one-store : (pool : List ℕ) → length (openPlan pool .stores) ≤ 1

@@ -5,7 +5,7 @@ use mathlib.Core.Bool.{true}
 use Rattle.demands.specs.Demand1.{Demand1}
 use Rattle.demands.specs.Causes.{Causes}
 use Rattle.demands.specs.Demand2.{Demand2Holds}
-use Rattle.demands.specs.Demand3.{InGroups, InOrder, Within, Demand3, Begins, AtMostOneStale}
+use Rattle.demands.specs.Demand3.{Generation, Demand3, Covers, Begins, AtMostOneStale}
 use Rattle.demands.specs.Question.{ListedIffOpenable}
 use Rattle.demands.specs.ByPlan.{ByPlan}
 use Rattle.demands.specs.FromC.{Returns}
@@ -16,17 +16,16 @@ use Rattle.demands.specs.Cases.{every, cases}
 use Rattle.demands.specs.StoreLists.{storeLists}
 use Rattle.demands.specs.Retired.{retired}
 
-pub record Claims : Type 0 where
+pub record Claims : Type 1 where
   pub demand1 : Demand1
   -- "Wrong sizes, damage, an absent name, no room: each has its number": which number, exactly when
   pub causes : Causes
   pub demand2 : Demand2Holds
-  pub demand3 : Demand3 InGroups
-  -- the order of document 01 is an instance
-  pub in-order : Within InOrder InGroups
-  pub one-stale : AtMostOneStale InGroups
+  pub demand3 : (g : Generation) → Demand3 g
+  pub covers : Covers
+  pub one-stale : (g : Generation) → AtMostOneStale g
   -- "Is every name in the listing still openable, and is every openable name in the listing?"
-  pub question : ListedIffOpenable InGroups
+  pub question : (g : Generation) → ListedIffOpenable g
   pub begins : Begins
   pub by-plan : ByPlan
   pub from-c : Returns

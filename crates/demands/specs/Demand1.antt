@@ -77,9 +77,9 @@ pub record Demand1 : Type 0 where
   pub lookup : (pool : List ℕ) (k : ℕ) (a : Answer) → LookupGives pool k a → LookupSays a
   pub quick : (pool : List ℕ) (k : ℕ) (a : Answer) → QuickGives pool k a → LookupSays a
   pub list : (pool : List ℕ) (from : ℕ) (ks vs : List ℕ) (s : Shown) → ListGives pool from ks vs s → ListSays ks vs s
-  pub plan-put : (pool map : List ℕ) (k v : ℕ) (p : Planned) → PlanPutGives pool map k v p → Plans (0 ∷ 1 ∷ 2 ∷ 4 ∷ 7 ∷ []) pool p
-  pub plan-delete : (pool : List ℕ) (k : ℕ) (p : Planned) → PlanDeleteGives pool k p → Plans (0 ∷ 1 ∷ 2 ∷ 3 ∷ []) pool p
-  pub plan-open : (pool : List ℕ) (p : Planned) → PlanOpenGives pool p → Plans (0 ∷ 1 ∷ 2 ∷ []) pool p
+  pub plan-put : (pool map : List ℕ) (k v g : ℕ) (p : Planned) → PlanPutGives pool map k v g p → Plans (0 ∷ 1 ∷ 2 ∷ 4 ∷ 7 ∷ []) pool p
+  pub plan-delete : (pool : List ℕ) (k g : ℕ) (p : Planned) → PlanDeleteGives pool k g p → Plans (0 ∷ 1 ∷ 2 ∷ 3 ∷ []) pool p
+  pub plan-open : (pool : List ℕ) (g : ℕ) (p : Planned) → PlanOpenGives pool g p → Plans (0 ∷ 1 ∷ 2 ∷ []) pool p
   pub put : (pool map : List ℕ) (k v : ℕ) (l : Left) → PutGives pool map k v l → Whole (0 ∷ 1 ∷ 2 ∷ 4 ∷ 7 ∷ []) pool map l
   pub delete : (pool map : List ℕ) (k : ℕ) (l : Left) → DeleteGives pool map k l → Whole (0 ∷ 1 ∷ 2 ∷ 3 ∷ []) pool map l
   pub format : (pool map : List ℕ) (n : ℕ) (f : Formatted) → FormatGives pool map n f

@@ -6,23 +6,32 @@
 use mathlib.Core.Path.{_≡_}
 use mathlib.Core.Bool.{Bool, true, false}
 use mathlib.Core.Option.{Option, none, some}
-use mathlib.Core.List.{List, _++_}
+use mathlib.Core.List.{List, [], _++_}
 use Prim.Native.Nat.{ℕ, zero, suc, _-_, _*_, _≤_}
 use lib.Dec.{eqb}
 use lib.ListN.{length, take, drop}
 use Rattle.digits.specs.Choice.{pick}
 use Rattle.tree.specs.Stores.{Store, Part}
 use Rattle.pool.specs.Sizes.{bytesOf}
-use Rattle.plan.specs.Plans.{allButLast, theSwitch, made, Decided, plannedOf}
+use Rattle.plan.specs.Plans.{allButLast, theSwitch, adr, eadr, made, Decided, plannedFor}
 use Rattle.rules.specs.Puts.{putPlan}
 use Rattle.rules.specs.Deletes.{deletePlan}
 use Rattle.writing.specs.Calls.{Left, putOf, deleteOf, Formatted, formatOf, FormatGives}
 use Rattle.survey.specs.Soundness.{Sound, Stale, Straight}
-use Rattle.opening.specs.Openings.{openOf, openSteps}
+use Rattle.opening.specs.Openings.{openPlan, openOf, openSteps}
 use Rattle.listing.specs.Rows.{Word}
 use Rattle.demands.specs.Tables.{Table, blank, given, without, Names, Reads}
 use Rattle.demands.specs.Demand2.{Reading}
 use Rattle.demands.specs.ByPlan.{carriedOut}
+
+-- 02 (v): "Newer machines (eADR) let stores arrive in list order; older ones (ADR) follow (ii)."
+pub data Generation : Type 0 where
+  ADR : Generation
+  eADR : Generation
+
+abbrev pub numberOf : Generation → ℕ
+numberOf ADR = adr
+numberOf eADR = eadr
 
 -- an operation: a put of a file number under a name, or a delete of a name
 pub data Op : Type 0 where
@@ -43,8 +52,8 @@ abbrev pub firstGroup : Op → ℕ → ℕ
 firstGroup (put k v h) = allButLast
 firstGroup (delete k h) = theSwitch
 
-abbrev pub byPlan : Op → List ℕ → List ℕ → Left
-byPlan o pool map = carriedOut (plannedOf (firstGroup o) (planned o pool map)) pool map
+abbrev pub byPlan : Generation → Op → List ℕ → List ℕ → Left
+byPlan g o pool map = carriedOut (plannedFor (numberOf g) (firstGroup o) (planned o pool map)) pool map
 
 abbrev pub effect : Op → Table → Table
 effect (put k v h) T = given k v T
@@ -71,34 +80,49 @@ pub data InGroups : Op → List Store → List Store → Bool → Type 0 where
 pub data InOrder : Op → List Store → List Store → Bool → Type 0 where
   first : {o : Op} {σ : List Store} (n : ℕ) → n ≤ length σ → InOrder o σ (take n σ) (counts o n (length σ))
 
+-- which of them a generation has
+abbrev pub cutsOf : Generation → Cut
+cutsOf ADR = InGroups
+cutsOf eADR = InOrder
+
 -- what one rule of cuts can leave, the other can
 abbrev pub Within : Cut → Cut → Type 0
 Within C C′ = (o : Op) (σ τ : List Store) (b : Bool) → C o σ τ b → C′ o σ τ b
 
+-- "on ADR the caller makes the single steps and fences where the plan says, open's headers by its planning call before open itself; demand 3 reads a whole call
+-- for eADR alone"
+abbrev pub WholeCalls : Generation → Type 0
+WholeCalls ADR = ⊥
+WholeCalls eADR = Unit {0}
+
+abbrev pub MayOpen : Generation → List ℕ → Type 0
+MayOpen ADR pool = openPlan pool .stores ≡ []
+MayOpen eADR pool = Unit {0}
+
 -- a pool of n leaves, its map where there is one, and the plain table of all finished operations and of cut ones that count
-pub data Reach (B : List ℕ → Type 0) (C : Cut) (n : ℕ) : List ℕ → Option (List ℕ) → Table → Type 0 where
+pub data Reach (B : List ℕ → Type 0) (g : Generation) (n : ℕ) : List ℕ → Option (List ℕ) → Table → Type 0 where
   -- "Take a freshly formatted pool and its map."
-  fresh : (pool map : List ℕ) → formatOf pool map n .number ≡ 0 → Reach B C n (formatOf pool map n .pool) (some (formatOf pool map n .map)) blank
+  fresh : (pool map : List ℕ) → formatOf pool map n .number ≡ 0 → Reach B g n (formatOf pool map n .pool) (some (formatOf pool map n .map)) blank
   -- 02 (x): "Such entries in existing pools are still found, listed, replaced, deleted and opened." A pool that is there already, of the kind B: it is sound,
   -- reads as a table, and has no map, so that it is opened first.
-  existing : {pool : List ℕ} {T : Table} (s : Sound pool) → s .n ≡ n → B pool → Names T → Reads pool T → Reach B C n pool none T
+  existing : {pool : List ℕ} {T : Table} (s : Sound pool) → s .n ≡ n → B pool → Names T → Reads pool T → Reach B g n pool none T
   -- "Make any sequence of puts and deletes"
-  done : {pool map : List ℕ} {T : Table} (o : Op) → Reach B C n pool (some map) T → whole o pool map .done .number ≡ 0
-      → Reach B C n (whole o pool map .pool) (some (whole o pool map .map)) (effect o T)
+  done : {pool map : List ℕ} {T : Table} (o : Op) → WholeCalls g → Reach B g n pool (some map) T → whole o pool map .done .number ≡ 0
+      → Reach B g n (whole o pool map .pool) (some (whole o pool map .map)) (effect o T)
   -- the same by its plan: all steps in order, and the finish
-  stepped : {pool map : List ℕ} {T : Table} (o : Op) → Reach B C n pool (some map) T → planned o pool map .number ≡ 0
-      → Reach B C n (byPlan o pool map .pool) (some (byPlan o pool map .map)) (effect o T)
-  refused : {pool map : List ℕ} {T : Table} (o : Op) → Reach B C n pool (some map) T → (whole o pool map .done .number ≡ 0 → ⊥)
-      → Reach B C n (whole o pool map .pool) (some (whole o pool map .map)) T
+  stepped : {pool map : List ℕ} {T : Table} (o : Op) → Reach B g n pool (some map) T → planned o pool map .number ≡ 0
+      → Reach B g n (byPlan g o pool map .pool) (some (byPlan g o pool map .map)) (effect o T)
+  refused : {pool map : List ℕ} {T : Table} (o : Op) → WholeCalls g → Reach B g n pool (some map) T → (whole o pool map .done .number ≡ 0 → ⊥)
+      → Reach B g n (whole o pool map .pool) (some (whole o pool map .map)) T
   -- "any of them cut before, between or after its stores" "After a cut the map is lost"
-  cut : {pool map : List ℕ} {T : Table} (o : Op) {τ : List Store} {b : Bool} → Reach B C n pool (some map) T → planned o pool map .number ≡ 0
-      → C o (planned o pool map .stores) τ b → Reach B C n (made τ pool) none (pick b (effect o T) T)
-  lost : {pool map : List ℕ} {T : Table} → Reach B C n pool (some map) T → Reach B C n pool none T
+  cut : {pool map : List ℕ} {T : Table} (o : Op) (τ : List Store) (b : Bool) → Reach B g n pool (some map) T → planned o pool map .number ≡ 0
+      → cutsOf g o (planned o pool map .stores) τ b → Reach B g n (made τ pool) none (pick b (effect o T) T)
+  lost : {pool map : List ℕ} {T : Table} → Reach B g n pool (some map) T → Reach B g n pool none T
   -- "opening is repeated, itself cut at any store"
-  reopening : {pool : List ℕ} {T : Table} (k : ℕ) → Reach B C n pool none T → Reach B C n (openSteps k pool) none T
+  reopening : {pool : List ℕ} {T : Table} (k : ℕ) → Reach B g n pool none T → Reach B g n (openSteps k pool) none T
   -- "until one finishes"
-  opened : {pool : List ℕ} {T : Table} (bytes : List ℕ) → Reach B C n pool none T → length bytes ≡ bytesOf n
-      → Reach B C n (openOf pool bytes .pool) (some (openOf pool bytes .map)) T
+  opened : {pool : List ℕ} {T : Table} (bytes : List ℕ) → MayOpen g pool → Reach B g n pool none T → length bytes ≡ bytesOf n
+      → Reach B g n (openOf pool bytes .pool) (some (openOf pool bytes .map)) T
 
 -- what is promised of every state that is reached
 pub record Promised (n : ℕ) (pool : List ℕ) (map : Option (List ℕ)) (T : Table) : Type 0 where
@@ -113,8 +137,8 @@ pub record Promised (n : ℕ) (pool : List ℕ) (map : Option (List ℕ)) (T : T
 abbrev pub Any : List ℕ → Type 0
 Any pool = Unit {0}
 
-abbrev pub Demand3 : Cut → Type 0
-Demand3 C = (n : ℕ) (pool : List ℕ) (map : Option (List ℕ)) (T : Table) → Reach Any C n pool map T → Promised n pool map T
+abbrev pub Demand3 : Generation → Type 0
+Demand3 g = (n : ℕ) (pool : List ℕ) (map : Option (List ℕ)) (T : Table) → Reach Any g n pool map T → Promised n pool map T
 
 -- Format accepts every capacity with a pool and a map of its length, so that the states reached begin at each: "Its capacity N is 1 to 1024 leaves", "The pool
 -- has exactly 19N-15 words", a map "of 2N-1 bytes".
@@ -124,6 +148,11 @@ Begins =
     → (f : Formatted) → FormatGives pool map n f → f .number ≡ 0
 
 -- And beside the demand: in every state that is reached from a formatted pool, or from one that is straight, at most one header is stale.
-abbrev pub AtMostOneStale : Cut → Type 0
-AtMostOneStale C =
-    (n : ℕ) (pool : List ℕ) (map : Option (List ℕ)) (T : Table) → Reach Straight C n pool map T → (j j′ : ℕ) → Stale pool n j → Stale pool n j′ → j ≡ j′
+abbrev pub AtMostOneStale : Generation → Type 0
+AtMostOneStale g =
+    (n : ℕ) (pool : List ℕ) (map : Option (List ℕ)) (T : Table) → Reach Straight g n pool map T → (j j′ : ℕ) → Stale pool n j → Stale pool n j′ → j ≡ j′
+
+-- 02 (v): "Prove once that an ADR cut can leave every state an eADR cut can, so demand 3 covers both.": a cut, and with it every state that is reached
+pub record Covers : Type 1 where
+  pub cuts : Within (cutsOf eADR) (cutsOf ADR)
+  pub states : (B : List ℕ → Type 0) (n : ℕ) (pool : List ℕ) (map : Option (List ℕ)) (T : Table) → Reach B eADR n pool map T → Reach B ADR n pool map T

@@ -31,6 +31,6 @@ pub record Returns : Type 0 where
       → StepGives (planIn (set (set words 1 x) 2 y)) at pool a → StepGives (planIn words) at pool a
   pub finish-unread : (words : List ℕ) (x y : ℕ) (map : List ℕ) (a : After) → FinishInGives (set (set words 1 x) 2 y) map a → FinishInGives words map a
   -- what wort_plan_put, wort_plan_delete and wort_plan_open hand out is, taken in again, what plan_put, plan_delete and plan_open promise
-  pub put : (pool map : List ℕ) (k v : ℕ) (w : PlannedWords) → HandedOut (PlanPutGives pool map k v) w → PlanPutGives pool map k v (takenIn w)
-  pub delete : (pool : List ℕ) (k : ℕ) (w : PlannedWords) → HandedOut (PlanDeleteGives pool k) w → PlanDeleteGives pool k (takenIn w)
-  pub opening : (pool : List ℕ) (w : PlannedWords) → HandedOut (PlanOpenGives pool) w → PlanOpenGives pool (takenIn w)
+  pub put : (pool map : List ℕ) (k v g : ℕ) (w : PlannedWords) → HandedOut (PlanPutGives pool map k v g) w → PlanPutGives pool map k v g (takenIn w)
+  pub delete : (pool : List ℕ) (k g : ℕ) (w : PlannedWords) → HandedOut (PlanDeleteGives pool k g) w → PlanDeleteGives pool k g (takenIn w)
+  pub opening : (pool : List ℕ) (g : ℕ) (w : PlannedWords) → HandedOut (PlanOpenGives pool g) w → PlanOpenGives pool g (takenIn w)

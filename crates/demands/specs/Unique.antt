@@ -4,7 +4,7 @@
 use mathlib.Core.Path.{_≡_}
 use mathlib.Core.List.{List}
 use Prim.Native.Nat.{ℕ}
-use Rattle.plan.specs.Plans.{allButLast, theSwitch, oneGroup, plannedOf, stepOf, StepGives, runOf, RunGives}
+use Rattle.plan.specs.Plans.{allButLast, theSwitch, oneGroup, plannedFor, stepOf, StepGives, runOf, RunGives}
 use Rattle.finishing.specs.Finishes.{finishOf, FinishGives}
 use Rattle.plan.specs.declared.Plan.{Plan}
 use Rattle.finding.specs.Lookups.{told, lookupOf, LookupGives, quickOf, QuickGives}
@@ -27,9 +27,9 @@ pub record Unique : Type 0 where
   pub lookup : (pool : List ℕ) (k : ℕ) → OneOutcome (LookupGives pool k) (lookupOf pool k)
   pub quick : (pool : List ℕ) (k : ℕ) → OneOutcome (QuickGives pool k) (quickOf pool k)
   pub list : (pool : List ℕ) (from : ℕ) (ks vs : List ℕ) → OneOutcome (ListGives pool from ks vs) (listOf pool from ks vs)
-  pub plan-put : (pool map : List ℕ) (k v : ℕ) → OneOutcome (PlanPutGives pool map k v) (plannedOf allButLast (putPlan pool map k v))
-  pub plan-delete : (pool : List ℕ) (k : ℕ) → OneOutcome (PlanDeleteGives pool k) (plannedOf theSwitch (deletePlan pool k))
-  pub plan-open : (pool : List ℕ) → OneOutcome (PlanOpenGives pool) (plannedOf oneGroup (openPlan pool))
+  pub plan-put : (pool map : List ℕ) (k v g : ℕ) → OneOutcome (PlanPutGives pool map k v g) (plannedFor g allButLast (putPlan pool map k v))
+  pub plan-delete : (pool : List ℕ) (k g : ℕ) → OneOutcome (PlanDeleteGives pool k g) (plannedFor g theSwitch (deletePlan pool k))
+  pub plan-open : (pool : List ℕ) (g : ℕ) → OneOutcome (PlanOpenGives pool g) (plannedFor g oneGroup (openPlan pool))
   pub step : (p : Plan) (at : ℕ) (pool : List ℕ) → OneOutcome (StepGives p at pool) (stepOf p at pool)
   pub run : (most : ℕ) (p : Plan) (pool : List ℕ) → OneOutcome (RunGives most p pool) (runOf most p pool)
   pub finish : (p : Plan) (map : List ℕ) → OneOutcome (FinishGives p map) (finishOf (p .effect) map)
@@ -41,7 +41,8 @@ pub record Unique : Type 0 where
   pub found : (f g : Found) → told f ≡ told g → f ≡ g
   pub further : (a b : Listed) → numbers a ≡ numbers b → a ≡ b
   -- the plans handed out to C as words, and a finish by such words
-  pub plan-put-words : (pool map : List ℕ) (k v : ℕ) → OneOutcome (HandedOut (PlanPutGives pool map k v)) (plannedIn (plannedOf allButLast (putPlan pool map k v)))
-  pub plan-delete-words : (pool : List ℕ) (k : ℕ) → OneOutcome (HandedOut (PlanDeleteGives pool k)) (plannedIn (plannedOf theSwitch (deletePlan pool k)))
-  pub plan-open-words : (pool : List ℕ) → OneOutcome (HandedOut (PlanOpenGives pool)) (plannedIn (plannedOf oneGroup (openPlan pool)))
+  pub plan-put-words : (pool map : List ℕ) (k v g : ℕ)
+      → OneOutcome (HandedOut (PlanPutGives pool map k v g)) (plannedIn (plannedFor g allButLast (putPlan pool map k v)))
+  pub plan-delete-words : (pool : List ℕ) (k g : ℕ) → OneOutcome (HandedOut (PlanDeleteGives pool k g)) (plannedIn (plannedFor g theSwitch (deletePlan pool k)))
+  pub plan-open-words : (pool : List ℕ) (g : ℕ) → OneOutcome (HandedOut (PlanOpenGives pool g)) (plannedIn (plannedFor g oneGroup (openPlan pool)))
   pub finish-words : (words map : List ℕ) → OneOutcome (FinishInGives words map) (finishIn words map)

@@ -106,15 +106,15 @@ four (FreesLeaf a) = refl
 four (FreesBoth a b) = refl
 
 -- the head stored, and then the stores, make the plan's words
-pub laid-out : (p q r : List ℕ) (w : Plan) → q ≡ sets (set (set (set p 0 (w .count)) 1 (w .first)) 2 0) 3 (effectWords (w .effect)) → length q ≡ 53
+pub laid-out : (p q r : List ℕ) (w : Plan) → q ≡ sets (set (set (set p 0 (w .count)) 1 (w .first)) 2 (w .fences)) 3 (effectWords (w .effect)) → length q ≡ 53
     → r ≡ take 7 q ++ spared (w .words) ++ spared (w .values) → r ≡ wordsOf w
 laid-out p q r w laid full stores =
     let head = headWords w in
     let a = set p 0 (w .count) in
     let b = set a 1 (w .first) in
-    let c = set b 2 0 in
+    let c = set b 2 (w .fences) in
     let long : length p ≡ 53 =
-    sym (length-set p 0 (w .count)) ∙ sym (length-set a 1 (w .first)) ∙ sym (length-set b 2 0) ∙ sym (length-sets c 3 (effectWords (w .effect)))
+    sym (length-set p 0 (w .count)) ∙ sym (length-set a 1 (w .first)) ∙ sym (length-set b 2 (w .fences)) ∙ sym (length-sets c 3 (effectWords (w .effect)))
     ∙ sym (ap length laid) ∙ full in
     let seven : length head ≡ 7 = ap (λ (n : ℕ). suc (suc (suc n))) (four (w .effect)) in
     let begun : take 7 q ≡ head = ap (take 7) (laid ∙ sets-eq head p 0 (rw seven (omega arith))) ∙ take-at head _ 7 seven in

@@ -27,7 +27,7 @@ back ws vs e f =
 module _ (p : Plan) where
   -- the plan with another effect
   abbrev with : Effect → Plan
-  with e = record { words = p .words; values = p .values; count = p .count; first = p .first; effect = e }
+  with e = record { words = p .words; values = p .values; count = p .count; first = p .first; fences = p .fences; effect = e }
 
   pub plan-returns : length (p .words) ≡ 21 → length (p .values) ≡ 21 → planIn (wordsOf p) ≡ p
   plan-returns a b = go (p .effect)
@@ -38,6 +38,7 @@ module _ (p : Plan) where
             values = take 21 (drop 23 (spared (p .words) ++ spared (p .values)));
             count = p .count;
             first = p .first;
+            fences = p .fences;
             effect = e;
           }) (with e)
       same e = rw (front (p .words) (spared (p .values)) a, back (p .words) (p .values) a b)

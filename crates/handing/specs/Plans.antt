@@ -22,10 +22,10 @@ effectWords (TakesBoth a b) = 2 ∷ a ∷ b ∷ 0 ∷ []
 effectWords (FreesLeaf a) = 3 ∷ a ∷ 0 ∷ 0 ∷ []
 effectWords (FreesBoth a b) = 4 ∷ a ∷ b ∷ 0 ∷ []
 
--- "0 count; 1 first: stores of the first group; 2 fences: 0 until (v); 3 effect; 4, 5, 6 its data; 7..29 word numbers, 30..52 values; places for 23 stores, of
+-- "0 count; 1 first: stores of the first group; 2 fences: .. one for each group on ADR, 0 on eADR; 3 effect; 4, 5, 6 its data; 7..29 word numbers, 30..52 values; places for 23 stores, of
 -- which 21 are used ..; unused places 0"
 abbrev pub headWords : Plan → List ℕ
-headWords p = p .count ∷ p .first ∷ 0 ∷ effectWords (p .effect)
+headWords p = p .count ∷ p .first ∷ p .fences ∷ effectWords (p .effect)
 
 abbrev pub spared : List ℕ → List ℕ
 spared l = l ++ 0 ∷ 0 ∷ []
@@ -44,6 +44,7 @@ planIn l = record {
   values = take 21 (drop 30 l);
   count = getD l 0 0;
   first = getD l 1 0;
+  fences = getD l 2 0;
   effect = effectOf (getD l 3 0) (getD l 4 0) (getD l 5 0);
 }
 

@@ -84,17 +84,18 @@ pub fn lay_plan<'a>(
     plan: &mut [u64; 53],
     count: usize,
     first: usize,
+    fences: usize,
     effect: Effect,
     words: &'a [usize],
     values: &'a [u64],
 )
     requires { ⌜ (length (now words) ≡ 21) × (length (now values) ≡ 21) ⌝ }
     ensures { λ _. ⌜ now (plan .exit) ≡
-        wordsOf (record { words = now (words .entry); values = now (values .entry); count = count; first = first; effect = effect }) ⌝ }
+        wordsOf (record { words = now (words .entry); values = now (values .entry); count = count; first = first; fences = fences; effect = effect }) ⌝ }
 {
     plan[COUNT] = count as u64;
     plan[FIRST] = first as u64;
-    plan[FENCES] = 0;
+    plan[FENCES] = fences as u64;
     lay_effect(plan, effect);
     lay_stores(plan, words, values);
 }
@@ -110,6 +111,7 @@ pub fn hand_out(plan: &mut [u64; 53], p: Planned) -> u64
         plan,
         decided.count,
         decided.first,
+        decided.fences,
         effect,
         &decided.words,
         &decided.values,
@@ -154,6 +156,7 @@ pub fn taken_in(plan: &[u64]) -> Plan
         values,
         count: plan[COUNT] as usize,
         first: plan[FIRST] as usize,
+        fences: plan[FENCES] as usize,
         effect: effect_in(plan[EFFECT], plan[LEAF] as usize, plan[NODE] as usize),
     }
 }

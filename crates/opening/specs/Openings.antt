@@ -19,7 +19,7 @@ use Rattle.walk.specs.declared.Head.{Head}
 use Rattle.walk.specs.declared.Head.the-variants.{Branch, Wrong as Unaccepted}
 use Rattle.walk.specs.declared.Lowest.{Lowest}
 use Rattle.walk.specs.declared.Lowest.the-variants.{Key, NoKey}
-use Rattle.plan.specs.Plans.{oneGroup, made, Decided, decided, refused, plannedOf}
+use Rattle.plan.specs.Plans.{oneGroup, made, Decided, decided, refused, plannedFor}
 use Rattle.plan.specs.declared.Planned.{Planned}
 use Rattle.plan.specs.declared.Effect.the-variants.{Nothing}
 use Rattle.survey.specs.Surveys.{Survey, surveyOf}
@@ -73,9 +73,9 @@ openIn pool Wrong = refused 1
 unfoldable pub openPlan : List ℕ → Decided
 openPlan pool = openIn pool (capacityOf pool)
 
--- what plan_open promises
-abbrev pub PlanOpenGives : List ℕ → Planned → Type 0
-PlanOpenGives pool p = p ≡ plannedOf oneGroup (openPlan pool)
+-- what plan_open promises for a generation
+abbrev pub PlanOpenGives : List ℕ → ℕ → Planned → Type 0
+PlanOpenGives pool g p = p ≡ plannedFor g oneGroup (openPlan pool)
 
 -- the pool, and how many headers were rewritten
 pub record Mended : Type 0 where

@@ -6,7 +6,7 @@ ghost use lib.ListN.{length, getD, replicate};
 ghost use Rattle.pool.specs.Sizes.{Sized, bytesOf};
 ghost use Rattle.plan.specs.Plans.{oneGroup, planOf, plannedOf};
 ghost use Rattle.survey.specs.Surveys.{surveyOf};
-ghost use Rattle.opening.specs.Openings.{depthMarked, stale, mendOf, freshStores, mendFirst, openJudged, PlanOpenGives, mends, mendNode, mended, reached, keysOf, opened, left, restored, leftJudged, OpenGives};
+ghost use Rattle.opening.specs.Openings.{depthMarked, stale, mendOf, freshStores, mendFirst, openJudged, openPlan, PlanOpenGives, mends, mendNode, mended, reached, keysOf, opened, left, restored, leftJudged, OpenGives};
 use digits::Header;
 use plan::Effect;
 use plan::Plan;
@@ -113,14 +113,24 @@ fn plan_within(pool: &[u64], n: usize, scratch: &mut [u8]) -> Planned
 }
 
 // The first store that open makes, or none.
-pub fn plan_open(pool: &[u64]) -> Planned
-    ensures { λ r. ⌜ PlanOpenGives (now (pool .entry)) r ⌝ }
+fn plan_any(pool: &[u64]) -> Planned
+    ensures { λ r. ⌜ r ≡ plannedOf oneGroup (openPlan (now (pool .entry))) ⌝ }
 {
     let Size::Holds(n) = pool::capacity(pool) else {
         return Planned::refused(1);
     };
     let mut scratch = [0u8; 2047];
     plan_within(pool, n, &mut scratch)
+}
+
+// The same for a generation, which is judged before all else.
+pub fn plan_open(pool: &[u64], generation: u64) -> Planned
+    ensures { λ r. ⌜ PlanOpenGives (now (pool .entry)) generation r ⌝ }
+{
+    if !plan::is_known(generation) {
+        return Planned::fence(Planned::refused(1), generation);
+    }
+    Planned::fence(plan_any(pool), generation)
 }
 
 // Mends node j if it is stale; how many headers were rewritten.

@@ -26,6 +26,7 @@ laid-out :
       values = 40 ∷ 2 ∷ 0 ∷ 0 ∷ 0 ∷ 0 ∷ 0 ∷ 0 ∷ 0 ∷ 0 ∷ 0 ∷ 0 ∷ 0 ∷ 0 ∷ 0 ∷ 0 ∷ 0 ∷ 0 ∷ 0 ∷ 0 ∷ 0 ∷ [];
       count = 2;
       first = 1;
+      fences = 0;
       effect = TakesLeaf 0;
     }
 unfolding two stores
@@ -48,7 +49,7 @@ word-outside : stepOf two 0 (9 ∷ 9 ∷ 9 ∷ []) ≡ after 5 (9 ∷ 9 ∷ 9 �
 unfolding two stores stepOf
 word-outside = refl
 
-count-over : stepOf (record { words = two .words; values = two .values; count = 22; first = two .first; effect = two .effect }) 0 pool ≡ after 5 pool
+count-over : stepOf (record { words = two .words; values = two .values; count = 22; first = two .first; fences = two .fences; effect = two .effect }) 0 pool ≡ after 5 pool
 unfolding two stores pool stepOf
 count-over = refl
 

@@ -2,7 +2,7 @@
 -- Assumes nothing.
 use mathlib.Core.Path.{_≡_, refl, sym, ap, _∙_}
 use mathlib.Core.Logic.{_≢_, _⊎_, inl, inr, ⊎-elim}
-use mathlib.Core.Bool.{Bool, true, false}
+use mathlib.Core.Bool.{Bool, true, false, not}
 use mathlib.Core.List.{List, [], _∷_, _++_, map}
 use Prim.Native.Nat.{ℕ, zero, suc, _+_, _-_, _≤_, _<_, min}
 use native.Mathlib.Nat.{zero-add, add-zero, sub-zero, le-of-suc-le-suc, not-suc-le-zero}
@@ -16,11 +16,11 @@ use Rattle.digits.specs.Choice.{pick}
 use Rattle.tree.specs.Tree.{upd}
 use Rattle.tree.specs.Shape.{Mem}
 use Rattle.tree.specs.Stores.{Store, run}
-use Rattle.tree.proofs.Basics.{upd-case}
+use Rattle.tree.proofs.Basics.{upd-case, true-not-false}
 use Rattle.tree.proofs.Stores.{Words, words-more}
 use Rattle.plan.specs.declared.Plan.{Plan}
 use Rattle.plan.specs.declared.Effect.{Effect}
-use Rattle.plan.specs.Plans.{made, planOf, After, after, storeOf, stepOf, storesIn, Ran, ran, oneMore, makesOf, storesOf, runOf}
+use Rattle.plan.specs.Plans.{made, planOf, Decided, refused, known, decidedFor, After, after, storeOf, stepOf, storesIn, Ran, ran, oneMore, makesOf, storesOf, runOf}
 
 -- ---- the stores of a list
 pub made-append : (σ τ : List Store) (l : List ℕ) → made (σ ++ τ) l ≡ made τ (made σ l)
@@ -275,3 +275,14 @@ module _ (p : Plan) (most : ℕ) (pool : List ℕ) where
 
   pub run-makes : p .count ≤ 21 → makesOf (min most (p .count)) (storesIn (p .words) (p .values)) pool ≡ runOf most p pool
   run-makes h = rw (le-ltb 21 (p .count) h) (sym (makes-take most (p .count) (storesIn (p .words) (p .values)) pool))
+
+-- ---- generations
+-- 1 before all else where there is no such generation; else what is decided stays
+module _ (g : ℕ) (d : Decided) where
+  pub unknown-refuses : (r : Bool) → r ≡ known g → not r ≡ true → refused 1 ≡ decidedFor g d
+  unknown-refuses true e n = absurd (true-not-false n refl)
+  unknown-refuses false e n = rw (← e)
+
+  pub known-keeps : (r : Bool) → r ≡ known g → not r ≡ false → d ≡ decidedFor g d
+  known-keeps true e n = rw (← e)
+  known-keeps false e n = absurd (true-not-false refl n)

@@ -1,7 +1,7 @@
 -- Plans: their stores in order, one step, and a run of steps.
 -- Assumes nothing.
 use mathlib.Core.Path.{_≡_}
-use mathlib.Core.Bool.{true, false}
+use mathlib.Core.Bool.{Bool, true, false}
 use mathlib.Core.List.{List, [], _∷_, _++_, map}
 use Prim.Native.Nat.{ℕ, zero, suc, _+_, _-_}
 use lib.Dec.{eqb, leb, ltb}
@@ -34,13 +34,14 @@ theSwitch c = pick (ltb 1 c) 1 c
 abbrev pub oneGroup : ℕ → ℕ
 oneGroup c = c
 
--- the plan of these stores, grouped so
+-- the plan of these stores, grouped so, with no fence
 abbrev pub planOf : (ℕ → ℕ) → List Store → Effect → Plan
 planOf group σ e = record {
   words = padded (map (λ (s : Store). s .word) σ);
   values = padded (map (λ (s : Store). s .value) σ);
   count = length σ;
   first = group (length σ);
+  fences = 0;
   effect = e;
 }
 
@@ -59,6 +60,43 @@ refused k = record { number = k; stores = []; effect = Nothing }
 
 abbrev pub plannedOf : (ℕ → ℕ) → Decided → Planned
 plannedOf group d = record { number = d .number; plan = planOf group (d .stores) (d .effect) }
+
+-- 02 (v): "Newer machines (eADR) let stores arrive in list order; older ones (ADR) follow (ii)." The generations by their numbers; there is no other.
+abbrev pub adr : ℕ
+adr = 1
+
+abbrev pub eadr : ℕ
+eadr = 2
+
+abbrev pub known : ℕ → Bool
+known generation = pick (eqb generation adr) true (eqb generation eadr)
+
+-- "An ADR plan has a fence after each group, an eADR plan none, and the plan reports the number."
+abbrev pub groupsOf : ℕ → ℕ → ℕ
+groupsOf first count = pick (eqb count 0) 0 (pick (ltb first count) 2 1)
+
+abbrev pub fencesOf : ℕ → ℕ → ℕ → ℕ
+fencesOf generation first count = pick (eqb generation adr) (groupsOf first count) 0
+
+abbrev pub fenced : ℕ → Planned → Planned
+fenced generation p = record {
+  number = p .number;
+  plan = record {
+    words = p .plan .words;
+    values = p .plan .values;
+    count = p .plan .count;
+    first = p .plan .first;
+    fences = fencesOf generation (p .plan .first) (p .plan .count);
+    effect = p .plan .effect;
+  };
+}
+
+-- "Planning takes the generation." "any other generation is 1, before all else"
+abbrev pub decidedFor : ℕ → Decided → Decided
+decidedFor generation d = pick (known generation) d (refused 1)
+
+abbrev pub plannedFor : ℕ → (ℕ → ℕ) → Decided → Planned
+plannedFor generation group d = fenced generation (plannedOf group (decidedFor generation d))
 
 -- the number given back, and the words or bytes after the call
 pub record After : Type 0 where

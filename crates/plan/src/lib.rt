@@ -3,7 +3,7 @@ ghost use mathlib.Core.Path.{_≡_};
 ghost use mathlib.Core.List.{[], _∷_};
 ghost use Prim.Native.Nat.{_≤_, min};
 ghost use lib.ListN.{length};
-ghost use Rattle.plan.specs.Plans.{allButLast, theSwitch, oneGroup, planOf, refused, plannedOf, after, storeOf, stepOf, StepGives, ran, storesIn, makesOf, RunGives};
+ghost use Rattle.plan.specs.Plans.{allButLast, theSwitch, oneGroup, known, fencesOf, fenced, planOf, refused, plannedOf, after, storeOf, stepOf, StepGives, ran, storesIn, makesOf, RunGives};
 
 // What a plan does to the map. Slots are named by their byte number in the map.
 pub enum Effect {
@@ -14,13 +14,29 @@ pub enum Effect {
     FreesBoth(usize, usize),
 }
 
+// The platform generations: older machines let stores arrive in any order between two fences, newer ones in list order.
+pub const ADR: u64 = 1;
+
+pub const EADR: u64 = 2;
+
+// Whether there is such a generation.
+pub fn is_known(generation: u64) -> bool
+    ensures { λ r. ⌜ r ≡ known generation ⌝ }
+{
+    if generation == ADR {
+        return true;
+    }
+    generation == EADR
+}
+
 // At most 21 stores, each a word number and a value; unused places are 0. They are in groups, `first` of them in the first and the others, if
-// there are any, in the second. A step reads no group: they say where the caller's fences go.
+// there are any, in the second; `fences` is how many fences the caller makes, one after each group or none. A step reads neither.
 pub struct Plan {
     pub words: [usize; 21],
     pub values: [u64; 21],
     pub count: usize,
     pub first: usize,
+    pub fences: usize,
     pub effect: Effect,
 }
 
@@ -48,6 +64,19 @@ impl Plan {
         if 1 < count { 1 } else { count }
     }
 
+    // The fences of a plan of so many stores, of which so many are the first group: one after each group on ADR, none on eADR.
+    pub fn fences(generation: u64, first: usize, count: usize) -> usize
+        ensures { λ r. ⌜ r ≡ fencesOf generation first count ⌝ }
+    {
+        if generation != ADR {
+            return 0;
+        }
+        if count == 0 {
+            return 0;
+        }
+        if first < count { 2 } else { 1 }
+    }
+
     // A plan of no stores, and so of no group, with this effect.
     pub fn none(effect: Effect) -> Plan
         ensures { λ r. ⌜ r ≡ planOf oneGroup [] effect ⌝ }
@@ -57,6 +86,7 @@ impl Plan {
             values: [0; 21],
             count: 0,
             first: 0,
+            fences: 0,
             effect,
         }
     }
@@ -74,12 +104,37 @@ impl Plan {
             values,
             count: 1,
             first: 1,
+            fences: 0,
             effect,
         }
     }
 }
 
 impl Planned {
+    // The same, with the fences of a generation.
+    pub fn fence(planned: Planned, generation: u64) -> Planned
+        ensures { λ r. ⌜ r ≡ fenced generation planned ⌝ }
+    {
+        let number = planned.number;
+        let bare = planned.plan;
+        let first = bare.first;
+        let count = bare.count;
+        let effect = bare.effect;
+        let words = bare.words;
+        let values = bare.values;
+        Planned {
+            number,
+            plan: Plan {
+                words,
+                values,
+                count,
+                first,
+                fences: Plan::fences(generation, first, count),
+                effect,
+            },
+        }
+    }
+
     // A refusal, with a plan that does nothing.
     pub fn refused(number: u64) -> Planned
         ensures { λ r. ⌜ r ≡ plannedOf oneGroup (refused number) ⌝ }

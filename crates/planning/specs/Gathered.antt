@@ -14,7 +14,7 @@ Blank ws vs = (ws ≡ replicate 21 0) × (vs ≡ replicate 21 0)
 
 abbrev pub gathered : (ℕ → ℕ) → Laid → List ℕ → List ℕ → Planned
 gathered group l ws vs =
-    record { number = l .number; plan = record { words = ws; values = vs; count = l .count; first = group (l .count); effect = l .effect } }
+    record { number = l .number; plan = record { words = ws; values = vs; count = l .count; first = group (l .count); fences = 0; effect = l .effect } }
 
 -- what is said of the stores that a planning call decides on
 abbrev pub laidOf : Decided → Laid

@@ -1,6 +1,6 @@
 // Planning a delete.
 ghost use mathlib.Core.Path.{_≡_};
-ghost use Rattle.plan.specs.Plans.{theSwitch, plannedOf};
+ghost use Rattle.plan.specs.Plans.{theSwitch, plannedOf, decidedFor};
 ghost use Rattle.removing.specs.Removals.{decidedBy};
 ghost use Rattle.rules.specs.Deletes.{deletePlan, PlanDeleteGives};
 ghost use Rattle.planning.specs.Gathered.{Blank, gathered};
@@ -57,14 +57,33 @@ fn lay_delete(words: &mut [usize], values: &mut [u64], pool: &[u64], key: u64) -
     lay_removal(words, values, find_removal(pool, n, key))
 }
 
-// What a delete stores, in order.
-pub fn plan_delete(pool: &[u64], key: u64) -> Planned
-    ensures { λ r. ⌜ PlanDeleteGives (now (pool .entry)) key r ⌝ }
+// The same for a generation, which is judged before all else.
+fn lay_delete_for(
+    words: &mut [usize],
+    values: &mut [u64],
+    pool: &[u64],
+    key: u64,
+    generation: u64,
+) -> Laid
+    requires { ⌜ Blank (now words) (now values) ⌝ }
+    ensures { λ r. ⌜ gathered theSwitch r (now (words .exit)) (now (values .exit)) ≡
+        plannedOf theSwitch (decidedFor generation (deletePlan (now (pool .entry)) key)) ⌝ }
+{
+    if !plan::is_known(generation) {
+        return Laid::refused(1);
+    }
+    lay_delete(words, values, pool, key)
+}
+
+// What a delete stores, in order, and its fences on a generation.
+pub fn plan_delete(pool: &[u64], key: u64, generation: u64) -> Planned
+    ensures { λ r. ⌜ PlanDeleteGives (now (pool .entry)) key generation r ⌝ }
 {
     let mut words = [0usize; Plan::MOST];
     let mut values = [0u64; Plan::MOST];
-    let laid = lay_delete(&mut words, &mut values, pool, key);
+    let laid = lay_delete_for(&mut words, &mut values, pool, key, generation);
     let count = laid.count;
+    let first = Plan::the_switch(count);
     let effect = laid.effect;
     Planned {
         number: laid.number,
@@ -72,7 +91,8 @@ pub fn plan_delete(pool: &[u64], key: u64) -> Planned
             words,
             values,
             count,
-            first: Plan::the_switch(count),
+            first,
+            fences: Plan::fences(generation, first, count),
             effect,
         },
     }

@@ -5,5 +5,5 @@ mod putting;
 
 pub use deleting::plan_delete;
 pub use laid::Laid;
-pub use putting::lay_put;
+pub use putting::lay_put_for;
 pub use putting::plan_put;

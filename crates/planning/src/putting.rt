@@ -3,7 +3,7 @@ ghost use mathlib.Core.Path.{_≡_};
 ghost use Prim.Native.Nat.{_≤_};
 ghost use lib.ListN.{length};
 ghost use Rattle.pool.specs.Sizes.{bytesOf};
-ghost use Rattle.plan.specs.Plans.{allButLast, plannedOf};
+ghost use Rattle.plan.specs.Plans.{allButLast, plannedOf, decidedFor};
 ghost use Rattle.rules.specs.Puts.{Splits, growOf, splitOf, putPlan, PlanPutGives};
 ghost use Rattle.placing.specs.Leads.{planAt, Able};
 ghost use Rattle.laying.specs.Lays.{Cloven};
@@ -100,7 +100,7 @@ fn lay_at(
 }
 
 // What a put stores, in order, laid out in two lists of 21 places that are all 0.
-pub fn lay_put(
+fn lay_put(
     words: &mut [usize],
     values: &mut [u64],
     pool: &[u64],
@@ -128,14 +128,35 @@ pub fn lay_put(
     )
 }
 
-// What a put stores, in order.
-pub fn plan_put(pool: &[u64], map: &[u8], key: u64, value: u64) -> Planned
-    ensures { λ r. ⌜ PlanPutGives (now (pool .entry)) (now (map .entry)) key value r ⌝ }
+// The same for a generation, which is judged before all else.
+pub fn lay_put_for(
+    words: &mut [usize],
+    values: &mut [u64],
+    pool: &[u64],
+    map: &[u8],
+    key: u64,
+    value: u64,
+    generation: u64,
+) -> Laid
+    requires { ⌜ Blank (now words) (now values) ⌝ }
+    ensures { λ r. ⌜ gathered allButLast r (now (words .exit)) (now (values .exit)) ≡
+        plannedOf allButLast (decidedFor generation (putPlan (now (pool .entry)) (now (map .entry)) key value)) ⌝ }
+{
+    if !plan::is_known(generation) {
+        return Laid::refused(1);
+    }
+    lay_put(words, values, pool, map, key, value)
+}
+
+// What a put stores, in order, and its fences on a generation.
+pub fn plan_put(pool: &[u64], map: &[u8], key: u64, value: u64, generation: u64) -> Planned
+    ensures { λ r. ⌜ PlanPutGives (now (pool .entry)) (now (map .entry)) key value generation r ⌝ }
 {
     let mut words = [0usize; Plan::MOST];
     let mut values = [0u64; Plan::MOST];
-    let laid = lay_put(&mut words, &mut values, pool, map, key, value);
+    let laid = lay_put_for(&mut words, &mut values, pool, map, key, value, generation);
     let count = laid.count;
+    let first = Plan::all_but_last(count);
     let effect = laid.effect;
     Planned {
         number: laid.number,
@@ -143,7 +164,8 @@ pub fn plan_put(pool: &[u64], map: &[u8], key: u64, value: u64) -> Planned
             words,
             values,
             count,
-            first: Plan::all_but_last(count),
+            first,
+            fences: Plan::fences(generation, first, count),
             effect,
         },
     }

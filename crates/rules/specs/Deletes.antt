@@ -21,7 +21,7 @@ use Rattle.walk.specs.declared.End.{End}
 use Rattle.walk.specs.declared.End.the-variants.{AtLeaf, AtEmpty, Stopped, Damaged}
 use Rattle.walk.specs.declared.Lowest.{Lowest}
 use Rattle.walk.specs.declared.Lowest.the-variants.{Key, NoKey}
-use Rattle.plan.specs.Plans.{theSwitch, Decided, decided, refused, plannedOf}
+use Rattle.plan.specs.Plans.{theSwitch, Decided, decided, refused, plannedFor}
 use Rattle.plan.specs.declared.Planned.{Planned}
 use Rattle.plan.specs.declared.Effect.the-variants.{FreesLeaf, FreesBoth}
 
@@ -89,6 +89,6 @@ deleteIn pool k Wrong = refused 1
 unfoldable pub deletePlan : List ℕ → ℕ → Decided
 deletePlan pool k = deleteIn pool k (capacityOf pool)
 
--- what plan_delete promises
-abbrev pub PlanDeleteGives : List ℕ → ℕ → Planned → Type 0
-PlanDeleteGives pool k p = p ≡ plannedOf theSwitch (deletePlan pool k)
+-- what plan_delete promises for a generation
+abbrev pub PlanDeleteGives : List ℕ → ℕ → ℕ → Planned → Type 0
+PlanDeleteGives pool k g p = p ≡ plannedFor g theSwitch (deletePlan pool k)

@@ -20,7 +20,7 @@ use Rattle.walk.specs.declared.End.{End}
 use Rattle.walk.specs.declared.End.the-variants.{AtLeaf, AtEmpty, Stopped, Damaged}
 use Rattle.walk.specs.declared.Lowest.{Lowest}
 use Rattle.walk.specs.declared.Lowest.the-variants.{Key, NoKey}
-use Rattle.plan.specs.Plans.{allButLast, Decided, decided, refused, plannedOf}
+use Rattle.plan.specs.Plans.{allButLast, Decided, decided, refused, plannedFor}
 use Rattle.plan.specs.declared.Planned.{Planned}
 use Rattle.plan.specs.declared.Effect.the-variants.{Nothing, TakesLeaf, TakesBoth}
 use Rattle.rules.specs.declared.Cleft.{Cleft}
@@ -134,6 +134,6 @@ putIn pool map k v Wrong = refused 1
 unfoldable pub putPlan : List ℕ → List ℕ → ℕ → ℕ → Decided
 putPlan pool map k v = putIn pool map k v (capacityOf pool)
 
--- what plan_put promises
-abbrev pub PlanPutGives : List ℕ → List ℕ → ℕ → ℕ → Planned → Type 0
-PlanPutGives pool map k v p = p ≡ plannedOf allButLast (putPlan pool map k v)
+-- what plan_put promises for a generation
+abbrev pub PlanPutGives : List ℕ → List ℕ → ℕ → ℕ → ℕ → Planned → Type 0
+PlanPutGives pool map k v g p = p ≡ plannedFor g allButLast (putPlan pool map k v)

@@ -3,7 +3,7 @@
 use mathlib.Core.List.{List, [], _∷_, _++_}
 use Prim.Native.Nat.{ℕ, zero, suc, min}
 use lib.ListN.{length, getD, replicate}
-use Rattle.plan.specs.Plans.{allButLast, theSwitch, Ran, runOf, plannedOf}
+use Rattle.plan.specs.Plans.{allButLast, theSwitch, eadr, Ran, runOf, plannedFor}
 use Rattle.plan.specs.declared.Planned.{Planned}
 use Rattle.finding.specs.Lookups.{lookupOf}
 use Rattle.finding.specs.Lookups as found
@@ -37,10 +37,10 @@ delete key m = deleteOf (m .pool) (m .map) key
 
 -- "cuts the next P or D after n stores at most": the first stores of its plan
 abbrev pub putCut : ℕ → ℕ → Memory → Planned
-putCut key value m = plannedOf allButLast (putPlan (m .pool) (m .map) key value)
+putCut key value m = plannedFor eadr allButLast (putPlan (m .pool) (m .map) key value)
 
 abbrev pub deleteCut : ℕ → Memory → Planned
-deleteCut key m = plannedOf theSwitch (deletePlan (m .pool) key)
+deleteCut key m = plannedFor eadr theSwitch (deletePlan (m .pool) key)
 
 abbrev pub cut : Planned → ℕ → Memory → Ran
 cut planned n m = runOf n (planned .plan) (m .pool)

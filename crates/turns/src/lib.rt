@@ -92,11 +92,11 @@ pub fn perform(turn: Turn, pool: &mut [u64], map: &mut [u8], out: &mut [u8], at:
         Turn::Get(key) => get(pool, out, at, key),
         Turn::Listing => list(pool, out, at),
         Turn::CutPut(stores, key, value) => {
-            let planned = planning::plan_put(pool, map, key, value);
+            let planned = planning::plan_put(pool, map, key, value, plan::EADR);
             cut(pool, map, out, at, planned, stores)
         }
         Turn::CutDelete(stores, key) => {
-            let planned = planning::plan_delete(pool, key);
+            let planned = planning::plan_delete(pool, key, plan::EADR);
             cut(pool, map, out, at, planned, stores)
         }
         Turn::Nothing => at,

@@ -128,18 +128,22 @@ pub extern "C" fn wort_plan_put(
     map: &[u8],
     key: u64,
     value: u64,
+    generation: u64,
     plan: &mut [u64; 53],
 ) -> u64
-    ensures { λ r. ⌜ HandedOut (PlanPutGives (now (pool .entry)) (now (map .entry)) key value) (planned r (now (plan .exit))) ⌝ }
+    ensures { λ r. ⌜ HandedOut (PlanPutGives (now (pool .entry)) (now (map .entry)) key value generation) (planned r (now (plan .exit))) ⌝ }
 {
     let mut words = [0usize; Plan::MOST];
     let mut values = [0u64; Plan::MOST];
-    let laid = planning::lay_put(&mut words, &mut values, pool, map, key, value);
+    let laid = planning::lay_put_for(&mut words, &mut values, pool, map, key, value, generation);
     let effect = laid.effect;
+    let count = laid.count;
+    let first = Plan::all_but_last(count);
     lay_plan(
         plan,
-        laid.count,
-        Plan::all_but_last(laid.count),
+        count,
+        first,
+        Plan::fences(generation, first, count),
         effect,
         &words,
         &values,
@@ -148,18 +152,23 @@ pub extern "C" fn wort_plan_put(
 }
 
 #[no_mangle]
-pub extern "C" fn wort_plan_delete(pool: &[u64], key: u64, plan: &mut [u64; 53]) -> u64
-    ensures { λ r. ⌜ HandedOut (PlanDeleteGives (now (pool .entry)) key) (planned r (now (plan .exit))) ⌝ }
+pub extern "C" fn wort_plan_delete(
+    pool: &[u64],
+    key: u64,
+    generation: u64,
+    plan: &mut [u64; 53],
+) -> u64
+    ensures { λ r. ⌜ HandedOut (PlanDeleteGives (now (pool .entry)) key generation) (planned r (now (plan .exit))) ⌝ }
 {
-    let p = planning::plan_delete(pool, key);
+    let p = planning::plan_delete(pool, key, generation);
     hand_out(plan, p)
 }
 
 #[no_mangle]
-pub extern "C" fn wort_plan_open(pool: &[u64], plan: &mut [u64; 53]) -> u64
-    ensures { λ r. ⌜ HandedOut (PlanOpenGives (now (pool .entry))) (planned r (now (plan .exit))) ⌝ }
+pub extern "C" fn wort_plan_open(pool: &[u64], generation: u64, plan: &mut [u64; 53]) -> u64
+    ensures { λ r. ⌜ HandedOut (PlanOpenGives (now (pool .entry)) generation) (planned r (now (plan .exit))) ⌝ }
 {
-    let p = opening::plan_open(pool);
+    let p = opening::plan_open(pool, generation);
     hand_out(plan, p)
 }
 

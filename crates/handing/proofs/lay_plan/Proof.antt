@@ -9,7 +9,7 @@ returns c =
     let at-lay-stores-arg = c .before in
     let at-lay-effect = at-lay-stores-arg .before in
     let a = at-lay-effect .before .before .before .before .args in
-    laid-out (a .plan .now) _ _ (record { words = a .words .now; values = a .values .now; count = a .count; first = a .first; effect = a .effect })
+    laid-out (a .plan .now) _ _ (record { words = a .words .now; values = a .values .now; count = a .count; first = a .first; fences = a .fences; effect = a .effect })
     (at-lay-effect .lay-effect .ensures) (at-lay-stores-arg .lay-stores-arg .given .0 .1) (c .lay-stores .ensures)
 
 pub lay-plan-spec : {M : Type 1} → statement M

@@ -69,6 +69,9 @@ shared-slice-read-t20 c = search needs
 shared-slice-read-t23 : tie.Need-shared-slice-read-t23 Inv-loop μ-loop
 shared-slice-read-t23 c = search needs
 
+shared-slice-read-t26 : tie.Need-shared-slice-read-t26 Inv-loop μ-loop
+shared-slice-read-t26 c = search needs
+
 shared-slice-read-effect-in : tie.Need-shared-slice-read-effect-in Inv-loop μ-loop
 shared-slice-read-effect-in c = search needs
 
@@ -83,7 +86,7 @@ effect-in-requires c κs = search needs
 
 returns : tie.Need-returns Inv-loop μ-loop
 returns c =
-    let at = c .before .before .before .before .before .before .before in
+    let at = c .before .before .before .before .before .before .before .before in
     let p : List ℕ = at .before .before .args .plan .now in
     let w : at .loop .words ≡ take 21 (drop 7 p) = taken-all 7 (at .loop .i) p _ (omega arith) (at .loop .inv .1) in
     let v : at .loop .values ≡ take 21 (drop 30 p) = taken-all 30 (at .loop .i) p _ (omega arith) (at .loop .inv .2) in
@@ -111,6 +114,7 @@ taken-in-spec =
     loop-again
     shared-slice-read-t20
     shared-slice-read-t23
+    shared-slice-read-t26
     shared-slice-read-effect-in
     shared-slice-read-effect-in-2
     shared-slice-read-effect-in-3

@@ -1,46 +1,40 @@
--- `plan_open` judges the size first. Assumes nothing.
-use mathlib.Core.Path.{refl, _∙_}
+-- `plan_open` judges the generation, and adds its fences. Assumes nothing.
+use mathlib.Core.Path.{ap, _∙_}
 use borrow.Author.Needs.{needs}
-use Rattle.opening.proofs.Openings.{plan-wrong, plan-holds}
+use Rattle.plan.specs.Plans.{oneGroup, plannedOf, fenced}
+use Rattle.plan.proofs.Laws.{unknown-refuses, known-keeps}
+use Rattle.opening.specs.Openings.{openPlan}
 use Rattle.opening.proofs.mending.plan_open.Statement.{statement}
 use Rattle.opening.proofs.mending.plan_open.Tie as tie
 
-capacity-requires : tie.Need-capacity-requires
-capacity-requires c κs = search needs
-
-enum-known-n : tie.Need-enum-known-n
-enum-known-n c = search needs
-
-enum-told : tie.Need-enum-told
-enum-told c = search needs
-
-refused-requires : tie.Need-refused-requires
-refused-requires c κs = search needs
-
 returns : tie.Need-returns
-returns c = c .refused .ensures ∙ plan-wrong (c .before .before .before .before .before .args .pool .now) (c .before .before .before .capacity .ensures .0)
-    (c .before .enum-told .given .1)
-
-slice-aggregate-plan-within : tie.Need-slice-aggregate-plan-within
-slice-aggregate-plan-within c = search needs
-
-plan-within-requires : tie.Need-plan-within-requires
-plan-within-requires c κs = (rw (c .before .before .n .given .1) at (c .before .before .before .before .capacity .ensures .1), refl)
+returns c =
+    let judged = c .before .before .before in
+    let a = judged .before .before .args in
+    c .fence .ensures
+    ∙ ap (fenced (a .generation))
+    (c .before .refused .ensures
+    ∙ ap (plannedOf oneGroup)
+    (unknown-refuses (a .generation) (openPlan (a .pool .now)) (judged .is-known .result) (judged .is-known .ensures) (c .before .before .if1 .taken)))
 
 returns-2 : tie.Need-returns-2
 returns-2 c =
-    let x = c .before .before .before .before .before .before in
-    c .before .plan-within .ensures ∙ plan-holds (x .before .before .args .pool .now) (x .capacity .ensures .0) (c .before .before .before .before .n .given .1)
+    let judged = c .before .before .before in
+    let a = judged .before .before .args in
+    c .fence2 .ensures
+    ∙ ap (fenced (a .generation))
+    (c .before .plan-any .ensures
+    ∙ ap (plannedOf oneGroup)
+    (known-keeps (a .generation) (openPlan (a .pool .now)) (judged .is-known .result) (judged .is-known .ensures) (c .before .before .if1 .left)))
 
 pub plan-open-spec : {M : Type 1} → statement M
 plan-open-spec =
     tie.close
     (tie.spec
-    capacity-requires
-    enum-known-n
-    enum-told
-    refused-requires
+    (λ c κs. search needs)
+    (λ c κs. search needs)
+    (λ c κs. search needs)
     returns
-    slice-aggregate-plan-within
-    plan-within-requires
+    (λ c κs. search needs)
+    (λ c κs. search needs)
     returns-2)
