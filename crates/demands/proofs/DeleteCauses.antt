@@ -25,12 +25,15 @@ use Rattle.walk.specs.Walks.{below, walkOf, isChild, childrenOf, otherChild}
 use Rattle.walk.specs.declared.Spot.{Spot}
 use Rattle.walk.proofs.Nodes.{is-child, other-child-there, other-child-off}
 use Rattle.listing.proofs.Loops.{scan-passes}
+use Rattle.walk.specs.declared.Fault.{Fault}
+use Rattle.plan.specs.declared.Effect.{Effect}
+use Rattle.plan.specs.declared.Effect.the-variants.{FreesLeaf}
 use Rattle.rules.specs.Deletes.{liftOf, mergeWith, unlinkOf, deleteAt}
 use Rattle.finding.specs.Lookups.{Answer, answer}
 use Rattle.survey.specs.Soundness.{at, branch}
 use Rattle.survey.proofs.Loops.{tally-flip}
 use Rattle.demands.specs.Ways.{chosen, Way, root, past, Lowest, Lookup, Parent, parent, Other, Delete}
-use Rattle.demands.proofs.Ways.{accepted, broken-case, spot, comes-to, comes-to-damage, child-means, told, lowest-is, lowest-some}
+use Rattle.demands.proofs.Ways.{accepted, broken-case, spot, comes-to, comes-to-damage, child-means, told, faultBelow, lowest-is, lowest-some}
 use Rattle.demands.proofs.LookupCauses.{lookup-some}
 
 -- ---- counts of places
@@ -115,21 +118,21 @@ module _ (pool : List ℕ) (n key : ℕ) where
   numberOf (some k) = 0
 
   -- the other child is bypassed or lifted unless its lowest way meets damage
-  merge-is : (s : Spot) (l c j : ℕ) {r : Option ℕ} → s .depth ≤ 16 → Lowest pool n (childWord n j c) (s .depth) r
-      → mergeWith pool n s l (childAt pool n j c) .number ≡ numberOf r
+  merge-is : (s : Spot) (o : Effect) (c j : ℕ) {r : Option ℕ} → s .depth ≤ 16 → Lowest pool n (childWord n j c) (s .depth) r
+      → mergeWith pool n s o (childWord n j c) (childAt pool n j c) .number ≡ numberOf r
   unfolding numberOf
-  merge-is s l c j h (Lowest.leaf e) = rw e
-  merge-is s l c j h (Lowest.broken b) = broken-case pool n b (λ e. rw e) (λ x R. rw (R .refers, R .head))
-  merge-is s l c j h (Lowest.childless a z) =
+  merge-is s o c j h (Lowest.leaf e) = rw e
+  merge-is s o c j h (Lowest.broken b) = broken-case pool n b (λ e. rw e) (λ x R. rw (R .refers, R .head))
+  merge-is s o c j h (Lowest.childless a z) =
       let A = accepted pool n a in
       rw (A .refers, A .head, lowest-is pool n h (Lowest.childless a z))
-  merge-is s l c j {r} h (Lowest.under {j = x} a C L) =
+  merge-is s o c j {r} h (Lowest.under {j = x} a C L) =
       let A = accepted pool n a in
-      rw (A .refers, A .head, lowest-is pool n h (Lowest.under a C L)) (go x r)
+      rw (A .refers, A .head, lowest-is pool n h (Lowest.under a C L)) (go x r (faultBelow pool n (Lowest.under a C L)))
     where
-      go : (x : ℕ) (r : Option ℕ) → liftOf n s l (childAt pool n j c) x (branch pool n x) (told pool n r) .number ≡ numberOf r
-      go x none = refl
-      go x (some k) = refl
+      go : (x : ℕ) (r : Option ℕ) (f : Fault) → liftOf n s o (childAt pool n j c) x (branch pool n x) (told pool n r f) .number ≡ numberOf r
+      go x none f = refl
+      go x (some k) f = refl
 
   -- every cause leads to its number
   missed-is : (a : Answer) → Lookup pool n key a → a .number ≢ 0 → deleteAt pool n key (walkOf pool n key) .number ≡ a .number
@@ -142,7 +145,7 @@ module _ (pool : List ℕ) (n key : ℕ) where
   record Unlinks (j : ℕ) : Type 0 where
     above : Spot
     leaf : ℕ
-    is : deleteAt pool n key (walkOf pool n key) ≡ unlinkOf pool n (below n j (branch pool n j) (own j) above) leaf
+    is : deleteAt pool n key (walkOf pool n key) ≡ unlinkOf pool n (below n j (branch pool n j) (own j) above) (FreesLeaf leaf)
     high : branch pool n j ≤ 15
     own-child : childAt pool n j (own j) ≢ 0
 
@@ -164,7 +167,7 @@ module _ (pool : List ℕ) (n key : ℕ) where
       → deleteAt pool n key (walkOf pool n key) .number ≡ numberOf r
   two-is {j} {c} U z O L =
       rw (U .is, z, other-is j (U .own-child) z O, lt-ltb c 16 (O .place))
-      (merge-is (below n j (branch pool n j) (own j) (U .above)) (U .leaf) c j (omega (arith, U .high)) L)
+      (merge-is (below n j (branch pool n j) (own j) (U .above)) (FreesLeaf (U .leaf)) c j (omega (arith, U .high)) L)
 
   pub delete-is : (x : ℕ) → Delete pool n key x → deleteAt pool n key (walkOf pool n key) .number ≡ x
   unfolding numberOf

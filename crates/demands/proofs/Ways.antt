@@ -15,7 +15,7 @@ use Rattle.digits.specs.Digits.{digitOf}
 use Rattle.digits.specs.Headers.{lengthOf}
 use Rattle.digits.proofs.Loops.{tally-none, tally-some}
 use Rattle.pool.specs.Sizes.{sizeOf, capacityOf, Sized}
-use Rattle.pool.specs.Places.{wordAt, headerAt, childAt, childWord}
+use Rattle.pool.specs.Places.{wordAt, headerAt, childAt, nodeWord, childWord}
 use Rattle.pool.specs.Refs.{Within}
 use Rattle.pool.specs.declared.Size.the-variants.{Holds}
 use Rattle.pool.specs.declared.Ref.{Ref}
@@ -23,6 +23,7 @@ use Rattle.pool.specs.declared.Ref.the-variants.{Empty, Leaf, Node, Bad}
 use Rattle.pool.proofs.Sizes.{size-fits}
 use Rattle.pool.proofs.Refs.{within}
 use Rattle.tree.proofs.Near.{scan-finds}
+use Rattle.walk.specs.Faults.{outOfRange, badHeader, badForm}
 use Rattle.walk.specs.Walks.{headOf, below, endOf, Test, walkFrom, walkTo, walkOf, childrenOf, lowestChild, isChild, lowestOf}
 use Rattle.walk.specs.Walks as walk
 use Rattle.walk.specs.Ends as walk-end
@@ -30,6 +31,7 @@ use Rattle.walk.specs.declared.Spot.{Spot}
 use Rattle.walk.specs.declared.End.the-variants.{Stopped, Damaged}
 use Rattle.walk.specs.declared.Lowest.the-variants.{Key, NoKey}
 use Rattle.walk.specs.declared.Lowest as declared
+use Rattle.walk.specs.declared.Fault.{Fault}
 use Rattle.walk.proofs.Heads.{NoNode, Refused, too-deep}
 use Rattle.walk.proofs.Loops.{scan-true}
 use Rattle.walk.proofs.Nodes.{is-child, lowest-child-there}
@@ -105,6 +107,16 @@ module _ (pool : List ℕ) (n : ℕ) where
   broken-case {w = w} (long {j} e h) f g = g j (record { refers = e; head = too-deep w (headerAt pool n j) (omega arith) })
   broken-case {w = w} (far {j} e h) f g = g j (record { refers = e; head = too-deep w (headerAt pool n j) h })
 
+  -- the word and the reason of damage at word i, met at walk depth w
+  abbrev pub faultOf : ℕ → ℕ → Ref → Fault
+  faultOf i w Empty = badForm i
+  faultOf i w (Leaf l) = badForm i
+  faultOf i w (Node j) = badHeader n j w (headerAt pool n j)
+  faultOf i w Bad = outOfRange i
+
+  abbrev pub faultAt : ℕ → ℕ → Fault
+  faultAt i w = faultOf i w (at pool n i)
+
   pub same-node : {i i′ j j′ : ℕ} → i ≡ i′ → at pool n i ≡ Node j → at pool n i′ ≡ Node j′ → j ≡ j′
   same-node {i} {i′} e p q = let r : at pool n i ≡ at pool n i′ = ap (at pool n) e in cc
 
@@ -162,11 +174,11 @@ module _ (pool : List ℕ) (n : ℕ) where
             let s = spot-is W in
             comes W p ∙ walk-ends pool n key test 16 (spot W) x (rw (s .0) e) g
 
-        pub passes-breaks : Broken pool n i w → walkFrom 17 pool n key test walk.root ≡ Damaged m
+        pub passes-breaks : Broken pool n i w → walkFrom 17 pool n key test walk.root ≡ Damaged m (faultAt i w)
         passes-breaks b =
             let s = spot-is W in
-            broken-case b (λ e. passes-ends Bad e tt ∙ ap Damaged (s .2))
-            (λ j r. comes W p ∙ walk-damaged pool n key test 16 (spot W) j (rw (s .0, s .1) r) ∙ ap Damaged (s .2))
+            broken-case b (λ e. passes-ends Bad e tt ∙ rw (s .0, s .2, e))
+            (λ j r. comes W p ∙ walk-damaged pool n key test 16 (spot W) j (rw (s .0, s .1) r) ∙ rw (s .1, s .2, r .refers))
 
         pub passes-stops : {j : ℕ} → Accepted pool n i w j → test key (headerAt pool n j) (branch pool n j) ≡ true
             → walkFrom 17 pool n key test walk.root ≡ Stopped (spot W) j (branch pool n j)
@@ -184,7 +196,7 @@ module _ (pool : List ℕ) (n : ℕ) where
         pub ends : (x : Ref) → at pool n i ≡ x → NoNode x → walkTo pool n key stop ≡ endOf (spot W) x
         ends = passes-ends (walk.past stop) W (passes-before W h)
 
-        pub breaks : Broken pool n i w → walkTo pool n key stop ≡ Damaged m
+        pub breaks : Broken pool n i w → walkTo pool n key stop ≡ Damaged m (faultAt i w)
         breaks = passes-breaks (walk.past stop) W (passes-before W h)
 
         pub stops : {j : ℕ} → Accepted pool n i w j → stop ≤ branch pool n j → walkTo pool n key stop ≡ Stopped (spot W) j (branch pool n j)
@@ -195,7 +207,7 @@ module _ (pool : List ℕ) (n : ℕ) where
       pub comes-to : (x : Ref) → at pool n i ≡ x → NoNode x → walkOf pool n key ≡ endOf (spot W) x
       comes-to = ends 16 W (way-depth W)
 
-      pub comes-to-damage : Broken pool n i w → walkOf pool n key ≡ Damaged m
+      pub comes-to-damage : Broken pool n i w → walkOf pool n key ≡ Damaged m (faultAt i w)
       comes-to-damage = breaks 16 W (way-depth W)
 
   -- every walk comes to an end, or to the first node that branches at `stop` or past it
@@ -263,19 +275,27 @@ module _ (pool : List ℕ) (n : ℕ) where
         ]
 
   -- what the definition calls what a way down comes to
-  abbrev pub told : Option ℕ → declared.Lowest
-  told none = NoKey
-  told (some k) = Key k
+  abbrev pub told : Option ℕ → Fault → declared.Lowest
+  told none f = NoKey f
+  told (some k) f = Key k
 
-  pub lowest-is : {i w : ℕ} {r : Option ℕ} → w ≤ 16 → Lowest pool n i w r → lowestOf pool n w (wordAt pool i) ≡ told r
-  lowest-is {i} {w} h (Lowest.leaf {l = l} e) = lowest-ends pool n 16 w (wordAt pool i) (Leaf l) e tt
+  -- the word and the reason where it comes to damage
+  pub faultBelow : {i w : ℕ} {r : Option ℕ} → Lowest pool n i w r → Fault
+  faultBelow {i} (Lowest.leaf e) = badForm i
+  faultBelow {i} {w} (Lowest.broken b) = faultAt i w
+  faultBelow (Lowest.childless {j = j} a z) = badForm (nodeWord n j)
+  faultBelow (Lowest.under a C L) = faultBelow L
+
+  pub lowest-is : {i w : ℕ} {r : Option ℕ} → w ≤ 16 → (L : Lowest pool n i w r) → lowestOf pool n w i (wordAt pool i) ≡ told r (faultBelow L)
+  unfolding faultBelow
+  lowest-is {i} {w} h (Lowest.leaf {l = l} e) = lowest-ends pool n 16 w i (wordAt pool i) (Leaf l) e tt
   lowest-is {i} {w} h (Lowest.broken b) =
-      broken-case b (λ e. lowest-ends pool n 16 w (wordAt pool i) Bad e tt) (λ j r. lowest-damaged pool n 16 w (wordAt pool i) j r)
+      broken-case b (λ e. lowest-ends pool n 16 w i (wordAt pool i) Bad e tt ∙ rw e) (λ j r. lowest-damaged pool n 16 w i (wordAt pool i) j r ∙ rw (r .refers))
   lowest-is {i} {w} h (Lowest.childless {j = j} a z) =
-      lowest-childless pool n 16 w (wordAt pool i) j (branch pool n j) (accepted a) (childless-none j z)
+      lowest-childless pool n 16 w i (wordAt pool i) j (branch pool n j) (accepted a) (childless-none j z)
   lowest-is {i} {w} {r} h (Lowest.under {j = j} {c = c} a C L) =
       let e = lowest-child-is j C in
-      sym (lowest-on pool n w (wordAt pool i) j (branch pool n j) (accepted a) (omega (arith, e, C .place)))
+      sym (lowest-on pool n w i (wordAt pool i) j (branch pool n j) (accepted a) (omega (arith, e, C .place)))
       ∙ rw e (lowest-is (omega (arith, a .high)) L)
 
   -- every reference but an empty one leads down to a leaf or to damage

@@ -34,20 +34,20 @@ module _ (pool : List ℕ) (key : ℕ) where
   at-end (AtLeaf s i) h = pick-case Looks (eqb (keyAt pool i) key) (λ t. done h) (λ t. absent h)
   at-end (AtEmpty s) h = absent h
   at-end (Stopped s j b) h = damage {m = s .nodes} (omega arith)
-  at-end (Damaged m) h = damage h
+  at-end (Damaged m f) h = damage h
 
   at-quick-end : (e : End) → metOf e ≤ 16 → Looks (quickAt pool key e)
   at-quick-end (AtLeaf s i) h = at-end (AtLeaf s i) h
   at-quick-end (AtEmpty s) h = at-end (AtEmpty s) h
   at-quick-end (Stopped s j b) h = absent h
-  at-quick-end (Damaged m) h = at-end (Damaged m) h
+  at-quick-end (Damaged m f) h = at-end (Damaged m f) h
 
   -- a walk that is not stopped is answered as lookup answers it
   pub quick-unstopped : (e : End) → Unstopped e → quickAt pool key e ≡ foundAt pool key e
   quick-unstopped (AtLeaf s i) u = refl
   quick-unstopped (AtEmpty s) u = refl
   quick-unstopped (Stopped s j b) u = absurd u
-  quick-unstopped (Damaged m) u = refl
+  quick-unstopped (Damaged m f) u = refl
 
   pub lookup-answers : Looks (lookupOf pool key)
   unfolding lookupOf
@@ -73,13 +73,13 @@ module _ (pool : List ℕ) (key : ℕ) where
   found-counts (AtLeaf s i) u = counted i (s .nodes)
   found-counts (AtEmpty s) u = refl
   found-counts (Stopped s j b) u = absurd u
-  found-counts (Damaged m) u = refl
+  found-counts (Damaged m f) u = refl
 
   quick-counts : (e : End) → quickAt pool key e .nodes ≡ metOf e
   quick-counts (AtLeaf s i) = counted i (s .nodes)
   quick-counts (AtEmpty s) = refl
   quick-counts (Stopped s j b) = refl
-  quick-counts (Damaged m) = refl
+  quick-counts (Damaged m f) = refl
 
   -- on every pool there is the quick lookup counts no more nodes than lookup
   pub quick-fewer : quickOf pool key .nodes ≤ lookupOf pool key .nodes

@@ -85,7 +85,7 @@ module _ (pool : List ℕ) (n : ℕ) (t : Tree ℕ) (fits : capacityOf pool ≡ 
       go (AtLeaf s i) q = as-lookup (AtLeaf s i) (walk-whole pool n k unlike (sym q) tt)
       go (AtEmpty s) q = as-lookup (AtEmpty s) (walk-whole pool n k unlike (sym q) tt)
       go (Stopped s j b) q = rw (stopped-absent pool n k 17 root (λ i. 0) t (H .holds) (H .good) (λ u. rw q at u)) (refl, refl)
-      go (Damaged m) q = as-lookup (Damaged m) (walk-whole pool n k unlike (sym q) tt)
+      go (Damaged m f) q = as-lookup (Damaged m f) (walk-whole pool n k unlike (sym q) tt)
 
 -- one row of a table has one number and one value
 pub finds-same : (o : Option ℕ) (a b : Answer) → Finds o a → Finds o b → (a .number ≡ b .number) × (a .value ≡ b .value)

@@ -15,6 +15,7 @@ use Rattle.pool.specs.declared.Size.{Size}
 use Rattle.pool.specs.declared.Size.the-variants.{Holds, Wrong}
 use Rattle.pool.specs.declared.Ref.{Ref}
 use Rattle.pool.specs.declared.Ref.the-variants.{Empty, Leaf, Node, Bad}
+use Rattle.walk.specs.Faults.{badHeader}
 use Rattle.walk.specs.Walks.{root, below, endOf, Test, never, unlike, walkFrom, walkOf, quickWalk}
 use Rattle.walk.specs.Ends.{Accepted}
 use Rattle.walk.specs.declared.Spot.{Spot}
@@ -52,8 +53,9 @@ module _ {pool : List ℕ} {n key : ℕ} {test : Test} where
     ends-here : (r : Ref) → r ≡ refOf n x → NoNode r → endOf (c .spot) r ≡ walkFrom 17 pool n key test root
     ends-here r e h = sym (walk-ends pool n key test 16 (c .spot) r (rw (c .word) (sym e)) h) ∙ c .onward
 
-    damaged-here : {j : ℕ} → Refused pool n w x j → Damaged nodes ≡ walkFrom 17 pool n key test root
-    damaged-here {j} g = rw (← c .passed) (sym (walk-damaged pool n key test 16 (c .spot) j (rw (c .depth, c .word) g)) ∙ c .onward)
+    damaged-here : {j : ℕ} → Refused pool n w x j
+        → Damaged nodes (badHeader n j w (headerAt pool n j)) ≡ walkFrom 17 pool n key test root
+    damaged-here {j} g = rw (← c .passed, ← c .depth) (sym (walk-damaged pool n key test 16 (c .spot) j (rw (c .depth, c .word) g)) ∙ c .onward)
 
     stopped-here : {j b : ℕ} → Accepted pool n w x j b → test key (headerAt pool n j) b ≡ true → Stopped (c .spot) j b ≡ walkFrom 17 pool n key test root
     stopped-here {j} {b} a t = sym (walk-stops pool n key test 16 (c .spot) j b (rw (c .depth, c .word) a) t) ∙ c .onward

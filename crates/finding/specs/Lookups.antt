@@ -47,7 +47,7 @@ abbrev pub foundAt : List ℕ → ℕ → End → Answer
 foundAt pool key (AtLeaf s i) = foundEnd pool key (s .nodes) (Leaf i)
 foundAt pool key (AtEmpty s) = foundEnd pool key (s .nodes) Empty
 foundAt pool key (Stopped s j b) = answer 2 0 (s .nodes)
-foundAt pool key (Damaged m) = answer 2 0 m
+foundAt pool key (Damaged m f) = answer 2 0 m
 
 abbrev pub foundIn : List ℕ → ℕ → Size → Answer
 foundIn pool key (Holds n) = foundAt pool key (walkOf pool n key)
@@ -66,7 +66,7 @@ abbrev pub quickAt : List ℕ → ℕ → End → Answer
 quickAt pool key (AtLeaf s i) = foundAt pool key (AtLeaf s i)
 quickAt pool key (AtEmpty s) = foundAt pool key (AtEmpty s)
 quickAt pool key (Stopped s j b) = answer 3 0 (s .nodes + 1)
-quickAt pool key (Damaged m) = foundAt pool key (Damaged m)
+quickAt pool key (Damaged m f) = foundAt pool key (Damaged m f)
 
 abbrev pub quickIn : List ℕ → ℕ → Size → Answer
 quickIn pool key (Holds n) = quickAt pool key (quickWalk pool n key)

@@ -86,21 +86,21 @@ module _ (pool : List ℕ) (n w r x b s : ℕ) (kids : ℕ → Tree ℕ) (h : Ho
 
 module _ (pool : List ℕ) (n : ℕ) where
   -- the lowest leaf's key is the tree's lowest
-  pub low-held : (f w r : ℕ) (q : ℕ → ℕ) (t : Tree ℕ) → Holds (base 16 n) (mem pool) w r t → Good dig 16 w q t → Filled t → w ≤ 16 → 17 ≤ f + w
-      → lowestFrom f pool n w r ≡ Key (low t)
+  pub low-held : (f w at r : ℕ) (q : ℕ → ℕ) (t : Tree ℕ) → Holds (base 16 n) (mem pool) w r t → Good dig 16 w q t → Filled t → w ≤ 16 → 17 ≤ f + w
+      → lowestFrom f pool n w at r ≡ Key (low t)
   unfolding Good low
-  low-held zero w r q t h g fl l fu = absurd (omega arith)
-  low-held (suc f) w r q empty h g fl l fu = absurd fl
-  low-held (suc f) w r q (leaf x k v) h g fl l fu =
+  low-held zero w at r q t h g fl l fu = absurd (omega arith)
+  low-held (suc f) w at r q empty h g fl l fu = absurd fl
+  low-held (suc f) w at r q (leaf x k v) h g fl l fu =
       let see = held-leaf pool n w r x k v h in
-      lowest-ends pool n f w r (Leaf x) (see .ref) tt ∙ ap Key (see .key)
-  low-held (suc f) w r q (node x b s kids) h g fl l fu =
+      lowest-ends pool n f w at r (Leaf x) (see .ref) tt ∙ ap Key (see .key)
+  low-held (suc f) w at r q (node x b s kids) h g fl l fu =
       let d : ℕ = scan 16 0 (λ c. filled (kids c)) in
       let (ld, fd) = lowest kids (g .4) in
       let e : lowestChild pool n (x - n) ≡ d = lowest-held pool n w r x b s kids h in
-      lowest-goes pool n f w r (x - n) b (held-node pool n w r x b s kids h) (rw e ld)
-      ∙ ap (λ c. lowestFrom f pool n (b + 1) (childAt pool n (x - n) c)) e
-      ∙ low-held f (b + 1) (childAt pool n (x - n) d) (upd (dig s) b d) (kids d) (held-child pool n w r x b s kids d h ld) (g .3 d ld)
+      lowest-goes pool n f w at r (x - n) b (held-node pool n w r x b s kids h) (rw e ld)
+      ∙ ap (λ c. lowestFrom f pool n (b + 1) (childWord n (x - n) c) (childAt pool n (x - n) c)) e
+      ∙ low-held f (b + 1) (childWord n (x - n) d) (childAt pool n (x - n) d) (upd (dig s) b d) (kids d) (held-child pool n w r x b s kids d h ld) (g .3 d ld)
       (filled-is (kids d) fd) (omega (arith, g .1)) (omega (arith, g .0))
 
   -- which is one of the pool's words

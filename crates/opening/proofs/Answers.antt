@@ -54,10 +54,10 @@ module _ (pool : List ℕ) where
     where
       low : (b : ℕ) (k : Lowest) → Words (λ x. x < length pool) (mendWith n w j b k)
       low b (Key k) = (l, tt)
-      low b NoKey = tt
+      low b (NoKey f) = tt
 
       go : (h : Head) → Words (λ x. x < length pool) (mendAt pool n w j h)
-      go (Branch b) = low b (lowestOf pool n w (nodeRef j))
+      go (Branch b) = low b (lowestOf pool n w 0 (nodeRef j))
       go Unaccepted = tt
 
   first-inside : (n : ℕ) → Sized pool n → (marks : List ℕ) → Words (λ x. x < length pool) (mendFirst pool n marks)

@@ -146,10 +146,10 @@ module _ (n : ℕ) (pos : 1 ≤ n) (cap : n ≤ 1024) (t : Tree ℕ) where
       pub bounds : (w ≤ S .b) × (S .b < 16)
       bounds = (accepted .w≤b, accepted .b<)
 
-      low-is : lowestOf pool n w (nodeRef j) ≡ Key (low u)
+      low-is : lowestOf pool n w 0 (nodeRef j) ≡ Key (low u)
       low-is =
-          ap (lowestOf pool n w) (sym ref-is)
-          ∙ low-held pool n 17 w r (pre dig (S .π) (λ i. 0) t) u holds good tt (omega (arith, bounds)) (omega arith)
+          ap (lowestOf pool n w 0) (sym ref-is)
+          ∙ low-held pool n 17 w 0 r (pre dig (S .π) (λ i. 0) t) u holds good tt (omega (arith, bounds)) (omega arith)
 
       abbrev pub header : ℕ
       header = headerOf w (S .b - w) (low u)

@@ -24,6 +24,7 @@ use Rattle.walk.specs.Walks.{headOf, lowestOf}
 use Rattle.walk.specs.declared.Head.{Head}
 use Rattle.walk.specs.declared.Head.the-variants.{Branch, Wrong as Unaccepted}
 use Rattle.walk.specs.declared.Lowest.{Lowest}
+use Rattle.walk.specs.declared.Fault.{Fault}
 use Rattle.walk.specs.declared.Lowest.the-variants.{Key, NoKey}
 use Rattle.walk.proofs.Loops.{tally-true, tally-false, tally-le}
 use Rattle.plan.specs.Plans.{oneGroup, made, planOf, plannedOf, refused, storesIn, Ran, ran, makesOf}
@@ -80,8 +81,8 @@ module _ (pool : List ℕ) (n w j : ℕ) {word : ℕ} {h : Head} (there : word �
   pub mend-wrong : h ≡ Unaccepted → [] ≡ mendOf pool n w j
   mend-wrong e = rw (← there, ← is, e)
 
-  module _ {b r : ℕ} (e : h ≡ Branch b) (to : r ≡ nodeRef j) {l : Lowest} (low : l ≡ lowestOf pool n w r) where
-    pub mend-keyless : l ≡ NoKey → [] ≡ mendOf pool n w j
+  module _ {b r : ℕ} (e : h ≡ Branch b) (to : r ≡ nodeRef j) {l : Lowest} (low : l ≡ lowestOf pool n w 0 r) where
+    pub mend-keyless : {f : Fault} → l ≡ NoKey f → [] ≡ mendOf pool n w j
     mend-keyless q = rw (← there, ← is, e, ← to, ← low, q)
 
     pub mend-header : {k v : ℕ} → l ≡ Key k → v ≡ headerOf w (b - w) k → record { word = nodeWord n j; value = v } ∷ [] ≡ mendOf pool n w j
@@ -101,10 +102,10 @@ at-most-one-store pool n w j = go (headOf w (headerAt pool n j))
   where
     low : (b : ℕ) (l : Lowest) → length (mendWith n w j b l) ≤ 1
     low b (Key k) = omega arith
-    low b NoKey = omega arith
+    low b (NoKey f) = omega arith
 
     go : (h : Head) → length (mendAt pool n w j h) ≤ 1
-    go (Branch b) = low b (lowestOf pool n w (nodeRef j))
+    go (Branch b) = low b (lowestOf pool n w 0 (nodeRef j))
     go Unaccepted = omega arith
 
 module _ (n : ℕ) (marks : List ℕ) (j : ℕ) (pool : List ℕ) {t : Bool} (is : t ≡ stale pool n marks j) where

@@ -38,10 +38,11 @@ stale pool n marks j = pick (eqb (getD marks (n + j) 0) 0) false (ltb (depthMark
 -- "rewrites each stale header (depth w, same branch place, digits from w of the keys below) as one store each": node j, which branches at b
 abbrev pub mendWith : ℕ → ℕ → ℕ → ℕ → Lowest → List Store
 mendWith n w j b (Key k) = record { word = nodeWord n j; value = headerOf w (b - w) k } ∷ []
-mendWith n w j b NoKey = []
+mendWith n w j b (NoKey f) = []
 
+-- the lowest leaf is looked for after the whole pool was judged: no word is named
 abbrev pub mendAt : List ℕ → ℕ → ℕ → ℕ → Head → List Store
-mendAt pool n w j (Branch b) = mendWith n w j b (lowestOf pool n w (nodeRef j))
+mendAt pool n w j (Branch b) = mendWith n w j b (lowestOf pool n w 0 (nodeRef j))
 mendAt pool n w j Unaccepted = []
 
 abbrev pub mendOf : List ℕ → ℕ → ℕ → ℕ → List Store

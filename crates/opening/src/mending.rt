@@ -57,7 +57,8 @@ fn fresh_header(pool: &[u64], n: usize, w: usize, j: usize) -> Fresh
     let Head::Branch(b) = walk::accept(w, pool::header(pool, n, j)) else {
         return Fresh::NoHeader;
     };
-    let Lowest::Key(near) = walk::lowest_leaf(pool, n, w, pool::node_ref(j)) else {
+    // The whole pool was judged before: no word is named here.
+    let Lowest::Key(near) = walk::lowest_leaf(pool, n, w, 0, pool::node_ref(j)) else {
         return Fresh::NoHeader;
     };
     Fresh::Header(Header::pack(w, b - w, near))

@@ -22,6 +22,7 @@ use Rattle.walk.specs.declared.Spot.{Spot}
 use Rattle.walk.specs.declared.End.{End}
 use Rattle.walk.specs.declared.End.the-variants.{AtLeaf, AtEmpty, Stopped, Damaged}
 use Rattle.walk.specs.declared.Lowest.{Lowest}
+use Rattle.walk.specs.declared.Fault.{Fault}
 use Rattle.walk.specs.declared.Lowest.the-variants.{Key, NoKey}
 use Rattle.walk.proofs.End.{the-type}
 use Rattle.walk.proofs.Ends.{walk-inside, walk-same, Stops, walk-last}
@@ -117,7 +118,7 @@ module _ {pool : List ℕ} {n k k2 f : ℕ} {e : End} (w : Walked pool n k k2 f 
         go map v (AtLeaf s i) p q = absurd (miss (1 ∷ 2 ∷ 3 ∷ []) 0 tt p)
         go map v (AtEmpty s) p q = refl
         go map v (Stopped s j b) p q = absurd (miss (0 ∷ 1 ∷ 3 ∷ []) 2 tt q)
-        go map v (Damaged m) p q = refl
+        go map v (Damaged m f) p q = refl
 
 -- ---- the walk ended at leaf i, with key x
 module _ (pool : List ℕ) {n : ℕ} (k : ℕ) {i x : ℕ} (l : i < n) (key : x ≡ keyAt pool i) where
@@ -138,8 +139,8 @@ module _ (pool : List ℕ) (n k : ℕ) (s : Spot) where
   pub root-empty : s .nodes ≡ 0 → Leads n k (Gap (s .at)) (λ map v. emptyPut pool map n k v s)
   root-empty h = record { able = tt; plans = λ map v. rw (eq-eqb (s .nodes) 0 h) }
 
-  module _ (h : s .nodes ≡ 0 → ⊥) {r : Lowest} (lowest : r ≡ lowestOf pool n (s .above) (wordAt pool (s .over))) where
-    pub no-key-below : r ≡ NoKey → Leads n k (Refused 2) (λ map v. emptyPut pool map n k v s)
+  module _ (h : s .nodes ≡ 0 → ⊥) {r : Lowest} (lowest : r ≡ lowestOf pool n (s .above) (s .over) (wordAt pool (s .over))) where
+    pub no-key-below : {f : Fault} → r ≡ NoKey f → Leads n k (Refused 2) (λ map v. emptyPut pool map n k v s)
     no-key-below q = leads-refused (λ map v. rw (ne-eqb (s .nodes) 0 h, ← lowest, q))
 
     pub key-below : {k2 : ℕ} {p : Place} → r ≡ Key k2 → Leads n k p (λ map v. besideOf pool map n k v (s .nodes) (s .at) k2)
@@ -170,7 +171,7 @@ module _ (pool : List ℕ) (n k : ℕ) {e : End} (walks : e ≡ walkOf pool n k)
       go map v (AtLeaf s i) p q = absurd (miss (1 ∷ 2 ∷ 3 ∷ []) 0 tt p)
       go map v (AtEmpty s) p q = absurd (miss (0 ∷ 2 ∷ 3 ∷ []) 1 tt q)
       go map v (Stopped s j b) p q = refl
-      go map v (Damaged m) p q = refl
+      go map v (Damaged m f) p q = refl
 
 -- ---- by the file number
 module _ (pool : List ℕ) (n k v : ℕ) where

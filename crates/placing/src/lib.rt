@@ -91,7 +91,7 @@ fn beside_empty(pool: &[u64], n: usize, key: u64, s: Spot) -> Place
         return Place::Gap(s.at);
     }
     let over = s.over;
-    let Lowest::Key(near) = walk::lowest_leaf(pool, n, s.above, pool[over]) else {
+    let Lowest::Key(near) = walk::lowest_leaf(pool, n, s.above, over, pool[over]) else {
         return Place::Refused(2);
     };
     // The last node branches where the keys part: no second walk need find it.

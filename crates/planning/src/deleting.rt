@@ -5,7 +5,6 @@ ghost use Rattle.removing.specs.Removals.{decidedBy};
 ghost use Rattle.rules.specs.Deletes.{deletePlan, PlanDeleteGives};
 ghost use Rattle.planning.specs.Gathered.{Blank, gathered};
 use crate::laid::Laid;
-use plan::Effect;
 use plan::Plan;
 use plan::Planned;
 use pool::Size;
@@ -19,28 +18,20 @@ fn lay_removal(words: &mut [usize], values: &mut [u64], r: Removal) -> Laid
 {
     match r {
         Removal::Refused(number) => Laid::refused(number),
-        Removal::Emptied(at, leaf) => {
-            let count = laying::switching(words, values, at, 0);
+        Removal::Switched(s, effect) => {
+            let count = laying::switching(words, values, s.at, s.child);
             Laid {
                 number: 0,
                 count,
-                effect: Effect::FreesLeaf(leaf),
+                effect,
             }
         }
-        Removal::Bypassed(at, child, leaf, node) => {
-            let count = laying::switching(words, values, at, child);
+        Removal::Lifted(s, h, effect) => {
+            let count = laying::lifting(words, values, s.at, s.child, h.word, h.header);
             Laid {
                 number: 0,
                 count,
-                effect: Effect::FreesBoth(leaf, node),
-            }
-        }
-        Removal::Lifted(at, child, word, header, leaf, node) => {
-            let count = laying::lifting(words, values, at, child, word, header);
-            Laid {
-                number: 0,
-                count,
-                effect: Effect::FreesBoth(leaf, node),
+                effect,
             }
         }
     }

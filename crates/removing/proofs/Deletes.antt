@@ -16,6 +16,7 @@ use Rattle.walk.specs.declared.End.{End}
 use Rattle.walk.specs.declared.End.the-variants.{AtLeaf, AtEmpty, Stopped, Damaged}
 use Rattle.walk.proofs.End.{the-type}
 use Rattle.plan.specs.Plans.{refused}
+use Rattle.plan.specs.declared.Effect.the-variants.{FreesLeaf}
 use Rattle.rules.specs.Deletes.{emptied, unlinkOf, missOf, deleteAt, deletePlan}
 
 pub delete-unsized : (pool : List ℕ) (k : ℕ) {z : Size} → z ≡ capacityOf pool → z ≡ Wrong → refused 1 ≡ deletePlan pool k
@@ -40,14 +41,14 @@ module _ {pool : List ℕ} {n k : ℕ} {e : End} (w : Walked pool n k e) where
       go (AtLeaf s i) p = absurd (miss (1 ∷ 2 ∷ 3 ∷ []) 0 tt p)
       go (AtEmpty s) p = refl
       go (Stopped s j b) p = refl
-      go (Damaged m) p = refl
+      go (Damaged m f) p = refl
 
   module _ {s : Spot} {i x : ℕ} (leaf : e ≡ AtLeaf s i) (key : x ≡ keyAt pool i) where
     pub delete-absent : (x ≡ k → ⊥) → refused 3 ≡ deletePlan pool k
     delete-absent h = rw (← delete-at leaf, ← key, ne-eqb x k h)
 
-    pub delete-root : x ≡ k → s .nodes ≡ 0 → emptied (s .at) i ≡ deletePlan pool k
+    pub delete-root : x ≡ k → s .nodes ≡ 0 → emptied (s .at) (FreesLeaf i) ≡ deletePlan pool k
     delete-root h r = rw (← delete-at leaf, ← key, eq-eqb x k h, eq-eqb (s .nodes) 0 r)
 
-    pub delete-below : x ≡ k → (s .nodes ≡ 0 → ⊥) → unlinkOf pool n s i ≡ deletePlan pool k
+    pub delete-below : x ≡ k → (s .nodes ≡ 0 → ⊥) → unlinkOf pool n s (FreesLeaf i) ≡ deletePlan pool k
     delete-below h r = rw (← delete-at leaf, ← key, eq-eqb x k h, ne-eqb (s .nodes) 0 r)

@@ -3,8 +3,9 @@ ghost use mathlib.Core.Path.{_≡_};
 ghost use Prim.Native.Nat.{_+_, _<_, _≤_};
 ghost use Rattle.pool.specs.Sizes.{Sized, capacityOf};
 ghost use Rattle.removing.specs.Removals.{decidedBy};
-ghost use Rattle.rules.specs.Deletes.{emptied, bypassed, liftIn, mergeWith, unlinkOf, missOf, deletePlan};
+ghost use Rattle.rules.specs.Deletes.{withNode, emptied, bypassed, liftIn, mergeWith, unlinkOf, missOf, deletePlan};
 use digits::Header;
+use plan::Effect;
 use pool::Ref;
 use pool::Size;
 use walk::End;
@@ -12,64 +13,97 @@ use walk::Head;
 use walk::Lowest;
 use walk::Spot;
 
-// What a delete comes to: a number; a reference that is emptied, and its leaf; a reference with what it takes, and the leaf and the node that are
-// freed; or that, with a header's word and the header before them.
+// The switch of a removal: the reference in the word `at` takes another child, or 0.
+pub struct Switch {
+    pub at: usize,
+    pub child: u64,
+}
+
+// The header that follows the switch, and its word.
+pub struct Follows {
+    pub word: usize,
+    pub header: u64,
+}
+
+// What a removal comes to: a number; or a switch, which a header may follow, and what they do to the map.
 pub enum Removal {
     Refused(u64),
-    Emptied(usize, usize),
-    Bypassed(usize, u64, usize, usize),
-    Lifted(usize, u64, usize, u64, usize, usize),
+    Switched(Switch, Effect),
+    Lifted(Switch, Follows, Effect),
 }
 
-// One store: the reference `at` to leaf i becomes 0.
-fn empty(at: usize, i: usize) -> Removal
-    ensures { λ r. ⌜ decidedBy r ≡ emptied at i ⌝ }
+// What an effect frees, and the node whose byte in the map is `node`.
+fn with_node(freed: Effect, node: usize) -> Effect
+    ensures { λ r. ⌜ r ≡ withNode freed node ⌝ }
 {
-    Removal::Emptied(at, i)
+    match freed {
+        Effect::Nothing => Effect::Nothing,
+        Effect::TakesLeaf(leaf) => Effect::TakesLeaf(leaf),
+        Effect::TakesBoth(leaf, other) => Effect::TakesBoth(leaf, other),
+        Effect::FreesLeaf(leaf) => Effect::FreesBoth(leaf, node),
+        Effect::FreesBoth(leaf, other) => Effect::FreesBoth(leaf, other),
+    }
 }
 
-// One store: the reference to the leaf's node takes the other child, the leaf r.
-fn bypass(n: usize, s: Spot, i: usize, r: u64) -> Removal
+// One store: the reference `at` becomes 0.
+fn empty(at: usize, freed: Effect) -> Removal
+    ensures { λ r. ⌜ decidedBy r ≡ emptied at freed ⌝ }
+{
+    Removal::Switched(Switch { at, child: 0 }, freed)
+}
+
+// One store: the reference to the node takes the other child, the leaf r.
+fn bypass(n: usize, s: Spot, freed: Effect, r: u64) -> Removal
     requires { ⌜ (n ≤ 1024) × (s .node < 1024) ⌝ }
-    ensures { λ p. ⌜ decidedBy p ≡ bypassed n s i r ⌝ }
+    ensures { λ p. ⌜ decidedBy p ≡ bypassed n s freed r ⌝ }
 {
-    Removal::Bypassed(s.over, r, i, n + s.node)
+    let switch = Switch {
+        at: s.over,
+        child: r,
+    };
+    Removal::Switched(switch, with_node(freed, n + s.node))
 }
 
-// Two stores: the reference to the leaf's node takes the other child, node j, whose header follows.
-fn lift(pool: &[u64], n: usize, s: Spot, i: usize, r: u64, j: usize) -> Removal
+// Two stores: the reference to the node takes the other child, node j, to which r in the word `at` refers; its header follows.
+fn lift(pool: &[u64], n: usize, s: Spot, freed: Effect, at: usize, r: u64, j: usize) -> Removal
     requires { ⌜ Sized (now pool) n × (s .node < 1024) × (s .depth ≤ 16) × (s .above ≤ s .depth) × (j + 1 < n) ⌝ }
-    ensures { λ p. ⌜ decidedBy p ≡ liftIn (now (pool .entry)) n s i r j ⌝ }
+    ensures { λ p. ⌜ decidedBy p ≡ liftIn (now (pool .entry)) n s freed at r j ⌝ }
 {
     let Head::Branch(b) = walk::accept(s.depth, pool::header(pool, n, j)) else {
         return Removal::Refused(2);
     };
-    let Lowest::Key(near) = walk::lowest_leaf(pool, n, s.depth, r) else {
+    let Lowest::Key(near) = walk::lowest_leaf(pool, n, s.depth, at, r) else {
         return Removal::Refused(2);
     };
-    let at = pool::node_word(n, j);
-    let header = Header::pack(s.above, b - s.above, near);
-    // The reference first: from here the key is gone, and the child's header is stale, which every walk accepts.
-    Removal::Lifted(s.over, r, at, header, i, n + s.node)
+    let switch = Switch {
+        at: s.over,
+        child: r,
+    };
+    // The switch first: from here the key is gone, and the child's header is stale, which every walk accepts.
+    let follows = Follows {
+        word: pool::node_word(n, j),
+        header: Header::pack(s.above, b - s.above, near),
+    };
+    Removal::Lifted(switch, follows, with_node(freed, n + s.node))
 }
 
-// The leaf's node has one other child, r.
-fn merge(pool: &[u64], n: usize, s: Spot, i: usize, r: u64) -> Removal
+// The node has one other child, r, in the word `at`.
+fn merge(pool: &[u64], n: usize, s: Spot, freed: Effect, at: usize, r: u64) -> Removal
     requires { ⌜ Sized (now pool) n × (s .node < 1024) × (s .depth ≤ 16) × (s .above ≤ s .depth) ⌝ }
-    ensures { λ p. ⌜ decidedBy p ≡ mergeWith (now (pool .entry)) n s i r ⌝ }
+    ensures { λ p. ⌜ decidedBy p ≡ mergeWith (now (pool .entry)) n s freed at r ⌝ }
 {
     match pool::reference(n, r) {
         Ref::Empty => Removal::Refused(2),
-        Ref::Leaf(_) => bypass(n, s, i, r),
-        Ref::Node(j) => lift(pool, n, s, i, r, j),
+        Ref::Leaf(_) => bypass(n, s, freed, r),
+        Ref::Node(j) => lift(pool, n, s, freed, at, r, j),
         Ref::Bad => Removal::Refused(2),
     }
 }
 
-// Leaf i hangs below a node.
-fn unlink(pool: &[u64], n: usize, s: Spot, i: usize) -> Removal
+// What is freed hangs below a node.
+fn unlink(pool: &[u64], n: usize, s: Spot, freed: Effect) -> Removal
     requires { ⌜ Sized (now pool) n × (s .node + 1 < n) × (s .depth ≤ 16) × (s .above ≤ s .depth) ⌝ }
-    ensures { λ p. ⌜ decidedBy p ≡ unlinkOf (now (pool .entry)) n s i ⌝ }
+    ensures { λ p. ⌜ decidedBy p ≡ unlinkOf (now (pool .entry)) n s freed ⌝ }
 {
     let node = s.node;
     let count = walk::children(pool, n, node);
@@ -77,13 +111,14 @@ fn unlink(pool: &[u64], n: usize, s: Spot, i: usize) -> Removal
         return Removal::Refused(2);
     }
     if 2 < count {
-        return empty(s.at, i);
+        return empty(s.at, freed);
     }
     let c = walk::other_child(pool, n, node, s.at);
     if Header::CHILDREN <= c {
         return Removal::Refused(2);
     }
-    merge(pool, n, s, i, pool::child(pool, n, node, c))
+    let at = pool::node_word(n, node) + 1 + c;
+    merge(pool, n, s, freed, at, pool::child(pool, n, node, c))
 }
 
 // The number of a walk that ended at no leaf.
@@ -94,7 +129,7 @@ fn miss(end: End) -> u64
         End::AtLeaf(_, _) => 2,
         End::AtEmpty(_) => 3,
         End::Stopped(_, _, _) => 2,
-        End::Damaged(_) => 2,
+        End::Damaged(_, _) => 2,
     }
 }
 
@@ -111,7 +146,7 @@ pub fn find_removal(pool: &[u64], n: usize, key: u64) -> Removal
         return Removal::Refused(3);
     }
     if s.nodes == 0 {
-        return empty(s.at, i);
+        return empty(s.at, Effect::FreesLeaf(i));
     }
-    unlink(pool, n, s, i)
+    unlink(pool, n, s, Effect::FreesLeaf(i))
 }

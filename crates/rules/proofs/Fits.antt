@@ -17,7 +17,7 @@ use Rattle.digits.specs.Headers.{headerOf}
 use Rattle.tree.specs.Stores.{block, tab}
 use Rattle.tree.proofs.Stores.{Words, words-block}
 use Rattle.pool.specs.Sizes.{capacityOf, bytesOf, Sized, Measured}
-use Rattle.pool.specs.Places.{wordAt, keyAt, headerAt, childAt, nodeWord}
+use Rattle.pool.specs.Places.{wordAt, keyAt, headerAt, nodeWord, childWord}
 use Rattle.pool.specs.Refs.{refOf, Within}
 use Rattle.pool.specs.declared.Size.{Size}
 use Rattle.pool.specs.declared.Size.the-variants.{Holds, Wrong}
@@ -38,6 +38,7 @@ use Rattle.walk.proofs.Ends.{walk-inside}
 use Rattle.layout.specs.Operations.{putStores}
 use Rattle.plan.specs.Plans.{Decided, refused}
 use Rattle.plan.specs.Effects.{Inside}
+use Rattle.plan.specs.declared.Effect.the-variants.{FreesLeaf}
 use Rattle.plan.proofs.Laws.{unused}
 use Rattle.rules.specs.declared.Cleft.{Cleft}
 use Rattle.rules.specs.declared.Target.{Target}
@@ -178,7 +179,7 @@ module _ {pool : List ℕ} (map : List ℕ) {n : ℕ} (z : Sized pool n) (l : le
       go (Stopped s j b) h =
           either (eqb b f) (λ e. either (eqb (s .nodes + 1) last) (λ d. grow-fits gap g) (λ d. damage))
           (λ e. split-fits (cleftAt pool k2 f s) (ANode j b) (omega (arith, h .inside .at<)) (ap forNode (h .accepted .refers), h .accepted .j<))
-      go (Damaged m) h = damage
+      go (Damaged m f) h = damage
 
   put-at-fits : (e : End) → Ends pool n 16 e → PutFits pool map n (putAt pool map n k v e)
   unfolding Words
@@ -187,13 +188,13 @@ module _ {pool : List ℕ} (map : List ℕ) {n : ℕ} (z : Sized pool n) (l : le
       (λ e. record { inside = (omega (arith, h .within), tt); few = omega arith; named = (tt, tt); answers = plans refl refl })
       (λ e. beside-fits 0 0 (keyAt pool i) (omega arith))
   put-at-fits (AtEmpty s) h =
-      either (eqb (s .nodes) 0) (λ e. grow-fits (s .at) (omega (arith, h .inside .at<))) (λ e. go (lowestOf pool n (s .above) (wordAt pool (s .over))))
+      either (eqb (s .nodes) 0) (λ e. grow-fits (s .at) (omega (arith, h .inside .at<))) (λ e. go (lowestOf pool n (s .above) (s .over) (wordAt pool (s .over))))
     where
       go : (r : Lowest) → PutFits pool map n (belowLast pool map n k v s r)
       go (Key k2) = beside-fits (s .nodes) (s .at) k2 (omega (arith, h .inside .at<))
-      go NoKey = damage
+      go (NoKey f) = damage
   put-at-fits (Stopped s j b) h = damage
-  put-at-fits (Damaged m) h = damage
+  put-at-fits (Damaged m f) h = damage
 
 pub put-fits : (pool map : List ℕ) (k v : ℕ) → PutFits pool map (leavesIn (capacityOf pool)) (putPlan pool map k v)
 unfolding putPlan capacityOf
@@ -246,12 +247,12 @@ module _ {pool : List ℕ} {n : ℕ} (z : Sized pool n) where
   unmet : DeleteFits pool n (bytesOf n) (refused 2)
   unmet = refusal 2 (hit deleteNumbers 2 tt)
 
-  emptied-fits : (at i : ℕ) → at < length pool → i < n → DeleteFits pool n (bytesOf n) (emptied at i)
+  emptied-fits : (at i : ℕ) → at < length pool → i < n → DeleteFits pool n (bytesOf n) (emptied at (FreesLeaf i))
   unfolding Words
   emptied-fits at i h l = record { inside = (h, tt); few = omega arith; named = search arith; answers = plans refl refl }
 
   module _ {s : Spot} (p : Passed pool n s) (i : ℕ) (l : i < n) where
-    lift-fits : (r j b : ℕ) (k : Lowest) → j + 1 < n → refOf n r ≡ Node j → DeleteFits pool n (bytesOf n) (liftOf n s i r j b k)
+    lift-fits : (r j b : ℕ) (k : Lowest) → j + 1 < n → refOf n r ≡ Node j → DeleteFits pool n (bytesOf n) (liftOf n s (FreesLeaf i) r j b k)
     unfolding Words
     lift-fits r j b (Key k2) h to =
         record {
@@ -260,26 +261,26 @@ module _ {pool : List ℕ} {n : ℕ} (z : Sized pool n) where
           named = (tt, (omega arith, (omega (arith, p .accepted .j<), tt)));
           answers = plans refl (rw to);
         }
-    lift-fits r j b NoKey h to = unmet
+    lift-fits r j b (NoKey f) h to = unmet
 
-    merge-fits : (r : ℕ) (o : Ref) → Within n o → refOf n r ≡ o → DeleteFits pool n (bytesOf n) (mergeOf pool n s i r o)
+    merge-fits : (at r : ℕ) (o : Ref) → Within n o → refOf n r ≡ o → DeleteFits pool n (bytesOf n) (mergeOf pool n s (FreesLeaf i) at r o)
     unfolding Words
-    merge-fits r Empty h to = unmet
-    merge-fits r (Leaf o) h to =
+    merge-fits at r Empty h to = unmet
+    merge-fits at r (Leaf o) h to =
         record {
           inside = (omega (arith, p .over<), tt);
           few = omega arith;
           named = (tt, (omega arith, (omega (arith, p .accepted .j<), tt)));
           answers = plans refl (rw to);
         }
-    merge-fits r (Node j) h to = go (headOf (s .depth) (headerAt pool n j))
+    merge-fits at r (Node j) h to = go (headOf (s .depth) (headerAt pool n j))
       where
-        go : (d : Head) → DeleteFits pool n (bytesOf n) (liftAt pool n s i r j d)
-        go (Branch b) = lift-fits r j b (lowestOf pool n (s .depth) r) h to
+        go : (d : Head) → DeleteFits pool n (bytesOf n) (liftAt pool n s (FreesLeaf i) at r j d)
+        go (Branch b) = lift-fits r j b (lowestOf pool n (s .depth) at r) h to
         go Unaccepted = unmet
-    merge-fits r Bad h to = unmet
+    merge-fits at r Bad h to = unmet
 
-    unlink-fits : s .at < length pool → DeleteFits pool n (bytesOf n) (unlinkOf pool n s i)
+    unlink-fits : s .at < length pool → DeleteFits pool n (bytesOf n) (unlinkOf pool n s (FreesLeaf i))
     unlink-fits h =
         either (ltb (childrenOf pool n (s .node)) 2) (λ e. unmet)
         (λ e.
@@ -287,8 +288,9 @@ module _ {pool : List ℕ} {n : ℕ} (z : Sized pool n) where
         (λ e.
         either (ltb (otherChild pool n (s .node) (s .at)) 16)
         (λ e.
-        let r = childAt pool n (s .node) (otherChild pool n (s .node) (s .at)) in
-        merge-fits r (refOf n r) (within n r) refl)
+        let at = childWord n (s .node) (otherChild pool n (s .node) (s .at)) in
+        let r = wordAt pool at in
+        merge-fits at r (refOf n r) (within n r) refl)
         (λ e. unmet)))
 
   delete-at-fits : (k : ℕ) (e : End) → Ends pool n 16 e → DeleteFits pool n (bytesOf n) (deleteAt pool n k e)
@@ -300,7 +302,7 @@ module _ {pool : List ℕ} {n : ℕ} (z : Sized pool n) where
       (λ e. refusal 3 (hit deleteNumbers 3 tt))
   delete-at-fits k (AtEmpty s) h = refusal 3 (hit deleteNumbers 3 tt)
   delete-at-fits k (Stopped s j b) h = unmet
-  delete-at-fits k (Damaged m) h = unmet
+  delete-at-fits k (Damaged m f) h = unmet
 
 pub delete-fits : (pool : List ℕ) (k : ℕ) → DeleteFits pool (leavesIn (capacityOf pool)) (bytesIn (capacityOf pool)) (deletePlan pool k)
 unfolding deletePlan capacityOf

@@ -58,7 +58,7 @@ module _ (pool : List ℕ) (n : ℕ) (t : Tree ℕ) (H : Held 16 n (mem pool) t)
     found-here = stands-found dig (digit-lt 16) 16 x k v all t (H .good) p
 
     abbrev plan : Decided
-    plan = pick (eqb (end .nodes) 0) (emptied (end .at) x) (unlinkOf pool n end x)
+    plan = pick (eqb (end .nodes) 0) (emptied (end .at) (FreesLeaf x)) (unlinkOf pool n end (FreesLeaf x))
 
     -- which is dropped
     drops : (o : Deleting) (over : List ℕ) (e : Effect) → frees e ≡ x ∷ over → takes e ≡ [] → Words (λ w. 0 < w) (deleteStores o)
@@ -108,7 +108,7 @@ module _ (pool : List ℕ) (n : ℕ) (t : Tree ℕ) (H : Held 16 n (mem pool) t)
       counted = children-held pool n w (mem pool word) y b s kids holds
 
       -- three children or more
-      unlinked : 2 < children kids → DeleteIs pool n t k (unlinkOf pool n (below n (y - n) b c above) x)
+      unlinked : 2 < children kids → DeleteIs pool n t k (unlinkOf pool n (below n (y - n) b c above) (FreesLeaf x))
       unfolding Words
       unlinked h =
           rw (counted, le-ltb (children kids) 2 (omega arith), lt-ltb 2 (children kids) h)
@@ -131,7 +131,8 @@ module _ (pool : List ℕ) (n : ℕ) (t : Tree ℕ) (H : Held 16 n (mem pool) t)
         slot-back : n + (y - n) ≡ y
         slot-back = omega (arith, held-slot pool n w (mem pool word) y b s kids holds)
 
-        merged : (u : Tree ℕ) → kids (O .o) ≡ u → DeleteIs pool n t k (mergeWith pool n (below n (y - n) b c above) x r)
+        merged : (u : Tree ℕ) → kids (O .o) ≡ u
+            → DeleteIs pool n t k (mergeWith pool n (below n (y - n) b c above) (FreesLeaf x) (childWord n (y - n) (O .o)) r)
         unfolding Good Words
         merged empty e = absurd (rw e at (O .there))
         merged (leaf z k′ v′) e =
@@ -142,19 +143,19 @@ module _ (pool : List ℕ) (n : ℕ) (t : Tree ℕ) (H : Held 16 n (mem pool) t)
             let u : Tree ℕ = node z b′ s′ kids′ in
             let a = held-node pool n (b + 1) r z b′ s′ kids′ (other-holds u e) in
             let g = subst (Good dig 16 (b + 1) (upd (dig s) b (O .o))) e (good .3 (O .o) (O .o<)) in
-            let low-is = low-held pool n 17 (b + 1) r (upd (dig s) b (O .o)) u (other-holds u e) g tt (omega (arith, a .w≤b, a .b<)) (omega arith) in
+            let low-is = low-held pool n 17 (b + 1) (childWord n (y - n) (O .o)) r (upd (dig s) b (O .o)) u (other-holds u e) g tt (omega (arith, a .w≤b, a .b<)) (omega arith) in
             rw (a .refers, a .head, low-is, spot-word n root ρ t (q .on), spot-depth n root ρ t (q .on), slot-back)
             (dropped (lifting 16 n word r (z - n) w b′ (low u)) (y ∷ []) (FreesBoth x y) refl refl (ref-above n 1 ρ t (omega arith), (omega arith, tt))
             (drops-bypass-node 16 n (mem pool) t H ρ y b s kids q c lc (O .o) (O .o<) apart count full (O .there) (omega arith) z b′ s′ kids′ (low u) e
             (low-agrees dig (digit-lt 16) 16 b′ (dig s′) u tt (omega arith, g .1, λ i l. refl, g .3, g .4))))
 
-        bypassed : DeleteIs pool n t k (unlinkOf pool n (below n (y - n) b c above) x)
+        bypassed : DeleteIs pool n t k (unlinkOf pool n (below n (y - n) b c above) (FreesLeaf x))
         bypassed = rw (counted, count, O .is, lt-ltb (O .o) 16 (O .o<)) (merged (kids (O .o)) refl)
 
       at-child : DeleteIs pool n t k plan
       at-child = rw (end-is, ne-eqb (above .nodes + 1) 0 (λ z. omega arith)) (go (less? 2 (children kids)))
         where
-          go : (2 < children kids) ⊎ (children kids ≤ 2) → DeleteIs pool n t k (unlinkOf pool n (below n (y - n) b c above) x)
+          go : (2 < children kids) ⊎ (children kids ≤ 2) → DeleteIs pool n t k (unlinkOf pool n (below n (y - n) b c above) (FreesLeaf x))
           go (inl h) = unlinked h
           go (inr h) = bypassed (other-held pool n w (mem pool word) y b s kids holds c two) (omega (arith, of-two kids two))
 

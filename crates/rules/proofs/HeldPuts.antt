@@ -307,8 +307,8 @@ module _ (pool bytes : List ℕ) (n : ℕ) (pos : 1 ≤ n) (cap : n ≤ 1024) (t
       shallow : w ≤ 16
       shallow = let a = held-node pool n w r (L .x) (L .b) (L .s) (L .kids) holds in omega (arith, a .w≤b, a .b<)
 
-      lowest-is : lowestOf pool n w r ≡ Key (near dig k t)
-      lowest-is = low-held pool n 17 w r (pre dig (L .ρ) (λ i. 0) t) last holds good tt shallow (omega arith) ∙ ap Key (sym (L .near-is))
+      lowest-is : lowestOf pool n w (refAt n 1 (L .ρ) t) r ≡ Key (near dig k t)
+      lowest-is = low-held pool n 17 w (refAt n 1 (L .ρ) t) r (pre dig (L .ρ) (λ i. 0) t) last holds good tt shallow (omega arith) ∙ ap Key (sym (L .near-is))
 
       apart : k ≢ near dig k t
       apart e = low-apart k w (pre dig (L .ρ) (λ i. 0) t) (L .x) (L .b) (L .s) (L .kids) good (L .none) (e ∙ L .near-is)

@@ -90,7 +90,7 @@ placedAt pool map n k v k2 f last gap (Stopped s j b) =
     (splitOf map n (cleftAt pool k2 f s) k v (ANode j b))
 placedAt pool map n k v k2 f last gap (AtLeaf s i) = splitOf map n (cleftAt pool k2 f s) k v ALeaf
 placedAt pool map n k v k2 f last gap (AtEmpty s) = refused 2
-placedAt pool map n k v k2 f last gap (Damaged m) = refused 2
+placedAt pool map n k v k2 f last gap (Damaged m x) = refused 2
 
 -- "Otherwise let k2 be the key of the leaf reached, or of the lowest leaf below the last node of the walk, and f the first differing digit of
 -- k and k2." "f = 16 among them: damage"
@@ -101,7 +101,7 @@ besideOf pool map n k v last gap k2 =
 
 abbrev pub belowLast : List ℕ → List ℕ → ℕ → ℕ → ℕ → Spot → Lowest → Decided
 belowLast pool map n k v s (Key k2) = besideOf pool map n k v (s .nodes) (s .at) k2
-belowLast pool map n k v s NoKey = refused 2
+belowLast pool map n k v s (NoKey f) = refused 2
 
 -- "1. k is found: one store, the leaf's value."
 abbrev pub replaced : ℕ → ℕ → Decided
@@ -114,14 +114,14 @@ leafPut pool map n k v i = pick (eqb (keyAt pool i) k) (replaced i v) (besideOf 
 abbrev pub emptyPut : List ℕ → List ℕ → ℕ → ℕ → ℕ → Spot → Decided
 emptyPut pool map n k v s =
     pick (eqb (s .nodes) 0) (growOf map n k v (s .at))
-    (belowLast pool map n k v s (lowestOf pool n (s .above) (wordAt pool (s .over))))
+    (belowLast pool map n k v s (lowestOf pool n (s .above) (s .over) (wordAt pool (s .over))))
 
 -- "Put, key k, value v", by where the walk ends
 abbrev pub putAt : List ℕ → List ℕ → ℕ → ℕ → ℕ → End → Decided
 putAt pool map n k v (AtLeaf s i) = leafPut pool map n k v i
 putAt pool map n k v (AtEmpty s) = emptyPut pool map n k v s
 putAt pool map n k v (Stopped s j b) = refused 2
-putAt pool map n k v (Damaged m) = refused 2
+putAt pool map n k v (Damaged m f) = refused 2
 
 -- 02 (x): "Puts of file number 0 are refused, for new and held keys alike." "7, after 1 and before 2"
 abbrev pub putFile : List ℕ → List ℕ → ℕ → ℕ → ℕ → Decided

@@ -68,7 +68,7 @@ abbrev pub Unstopped : End → Type 0
 Unstopped (AtLeaf s i) = Unit {0}
 Unstopped (AtEmpty s) = Unit {0}
 Unstopped (Stopped s j b) = ⊥
-Unstopped (Damaged m) = Unit {0}
+Unstopped (Damaged m f) = Unit {0}
 
 end-unstopped : (s : Spot) (r : Ref) → Unstopped (endOf s r)
 end-unstopped s Empty = tt
@@ -105,13 +105,13 @@ abbrev pub spotOf : End → Spot
 spotOf (AtLeaf s i) = s
 spotOf (AtEmpty s) = s
 spotOf (Stopped s j b) = s
-spotOf (Damaged m) = root
+spotOf (Damaged m f) = root
 
 abbrev pub Arrived : End → Type 0
 Arrived (AtLeaf s i) = Unit {0}
 Arrived (AtEmpty s) = Unit {0}
 Arrived (Stopped s j b) = ⊥
-Arrived (Damaged m) = ⊥
+Arrived (Damaged m f) = ⊥
 
 arrived-at : {s : Spot} (r : Ref) → Arrived (endOf s r) → spotOf (endOf s r) ≡ s
 arrived-at Empty u = refl
@@ -143,7 +143,7 @@ abbrev IsEmpty : End → Type 0
 IsEmpty (AtLeaf s i) = ⊥
 IsEmpty (AtEmpty s) = Unit {0}
 IsEmpty (Stopped s j b) = ⊥
-IsEmpty (Damaged m) = ⊥
+IsEmpty (Damaged m f) = ⊥
 
 is-empty : {e : End} {t : Spot} → e ≡ AtEmpty t → IsEmpty e
 is-empty p = rw p tt

@@ -10,6 +10,7 @@ use Rattle.pool.specs.Refs.{refOf}
 use Rattle.walk.specs.declared.Head.the-variants.{Branch, Wrong}
 use Rattle.walk.specs.declared.End.the-variants.{AtLeaf, AtEmpty, Stopped, Damaged}
 use Rattle.walk.specs.declared.Lowest.the-variants.{Key, NoKey}
+use Rattle.walk.specs.Faults.{fault}
 use Rattle.walk.specs.Walks.{headOf, walkFrom, walkTo, walkOf, childrenOf, lowestChild, otherChild, lowestFrom, lowestOf}
 
 -- "Header with depth 8, length 8 (b = 16): damage; depth 8, length 7 is accepted at w <= 8."
@@ -45,7 +46,7 @@ straight = pool 1026 0x0f00000000000000
 abbrev stale : List ℕ
 stale = pool 1025 0x0f00000000000000
 
--- node 0's depth is 8, met at depth 15
+-- node 0's depth is 8, met at depth 15: its header, word 8, has too small a depth
 abbrev damaged : List ℕ
 damaged = pool 1026 0x0807000000000000
 
@@ -65,19 +66,19 @@ walk-past-stale : walkOf stale 3 0x202 ≡ AtLeaf (record { at = 11; depth = 16;
 unfolding walkFrom refOf headOf
 walk-past-stale = refl
 
-walk-damaged : walkOf damaged 3 0x202 ≡ Damaged 1
+walk-damaged : walkOf damaged 3 0x202 ≡ Damaged 1 (fault 8 2)
 unfolding walkFrom refOf headOf
 walk-damaged = refl
 
-lowest-below-root : lowestOf straight 3 0 1026 ≡ Key 0x200
+lowest-below-root : lowestOf straight 3 0 1 1026 ≡ Key 0x200
 unfolding lowestFrom refOf headOf scan
 lowest-below-root = refl
 
-lowest-below-stale : lowestOf stale 3 0 1025 ≡ Key 0x200
+lowest-below-stale : lowestOf stale 3 0 1 1025 ≡ Key 0x200
 unfolding lowestFrom refOf headOf scan
 lowest-below-stale = refl
 
-lowest-damaged : lowestOf damaged 3 0 1026 ≡ NoKey
+lowest-damaged : lowestOf damaged 3 0 1 1026 ≡ NoKey (fault 8 2)
 unfolding lowestFrom refOf headOf scan
 lowest-damaged = refl
 

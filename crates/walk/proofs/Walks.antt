@@ -13,6 +13,7 @@ use Rattle.pool.specs.declared.Ref.the-variants.{Empty, Leaf, Node, Bad}
 use Rattle.walk.specs.declared.Spot.{Spot}
 use Rattle.walk.specs.declared.End.{End}
 use Rattle.walk.specs.declared.End.the-variants.{Stopped, Damaged}
+use Rattle.walk.specs.Faults.{badHeader}
 use Rattle.walk.specs.Walks.{below, endOf, Test, walkFrom}
 use Rattle.walk.specs.Ends.{Accepted}
 use Rattle.walk.proofs.Heads.{NoNode, Refused, no-node, wrong, node, met}
@@ -20,7 +21,8 @@ use Rattle.walk.proofs.Heads.{NoNode, Refused, no-node, wrong, node, me
 -- from s the walk comes to e, said without a bound
 pub data Walks (pool : List ℕ) (n key : ℕ) (test : Test) : Spot → End → Type 0 where
   ends : {s : Spot} {e : End} (r : Ref) → refOf n (wordAt pool (s .at)) ≡ r → Within n r → NoNode r → e ≡ endOf s r → Walks pool n key test s e
-  damaged : {s : Spot} {e : End} (j : ℕ) → Refused pool n (s .depth) (wordAt pool (s .at)) j → e ≡ Damaged (s .nodes) → Walks pool n key test s e
+  damaged : {s : Spot} {e : End} (j : ℕ) → Refused pool n (s .depth) (wordAt pool (s .at)) j → e ≡ Damaged (s .nodes) (badHeader n j (s .depth) (headerAt pool n j))
+      → Walks pool n key test s e
   stops : {s : Spot} {e : End} (j b : ℕ) → Accepted pool n (s .depth) (wordAt pool (s .at)) j b → test key (headerAt pool n j) b ≡ true
       → e ≡ Stopped s j b → Walks pool n key test s e
   goes : {s : Spot} {e : End} (j b : ℕ) → Accepted pool n (s .depth) (wordAt pool (s .at)) j b → test key (headerAt pool n j) b ≡ false
@@ -35,7 +37,8 @@ module _ (pool : List ℕ) (n key : ℕ) (test : Test) where
   walk-ends f s (Node j) e h = absurd h
   walk-ends f s Bad e h = rw (e, walkFrom)
 
-  pub walk-damaged : (f : ℕ) (s : Spot) (j : ℕ) → Refused pool n (s .depth) (wordAt pool (s .at)) j → walkFrom (suc f) pool n key test s ≡ Damaged (s .nodes)
+  pub walk-damaged : (f : ℕ) (s : Spot) (j : ℕ) → Refused pool n (s .depth) (wordAt pool (s .at)) j → walkFrom (suc f) pool n key test s
+      ≡ Damaged (s .nodes) (badHeader n j (s .depth) (headerAt pool n j))
   unfolding walkFrom
   walk-damaged f s j a = rw (a .refers, a .head, walkFrom)
 

@@ -58,11 +58,11 @@ abbrev pub Ends : List ℕ → ℕ → ℕ → End → Type 0
 Ends pool n stop (AtLeaf s i) = Stands pool n stop s (Leaf i)
 Ends pool n stop (AtEmpty s) = Stands pool n stop s Empty
 Ends pool n stop (Stopped s j b) = Stops pool n stop s j b
-Ends pool n stop (Damaged m) = m ≤ 16
+Ends pool n stop (Damaged m f) = m ≤ 16
 
 -- how many nodes had an accepted header on a walk, one at which it stopped among them
 abbrev pub metOf : End → ℕ
 metOf (AtLeaf s i) = s .nodes
 metOf (AtEmpty s) = s .nodes
 metOf (Stopped s j b) = s .nodes + 1
-metOf (Damaged m) = m
+metOf (Damaged m f) = m

@@ -8,7 +8,7 @@ use Rattle.digits.specs.Choice.{pick}
 use Rattle.digits.specs.Loops.{scan, tally}
 use Rattle.digits.specs.Digits.{digitOf}
 use Rattle.digits.specs.Headers.{depthOf, lengthOf, differs}
-use Rattle.pool.specs.Places.{wordAt, keyAt, headerAt, childAt, childWord}
+use Rattle.pool.specs.Places.{wordAt, keyAt, headerAt, childAt, nodeWord, childWord}
 use Rattle.pool.specs.Refs.{refOf}
 use Rattle.pool.specs.declared.Ref.{Ref}
 use Rattle.pool.specs.declared.Ref.the-variants.{Empty, Leaf, Node, Bad}
@@ -19,6 +19,7 @@ use Rattle.walk.specs.declared.End.{End}
 use Rattle.walk.specs.declared.End.the-variants.{AtLeaf, AtEmpty, Stopped, Damaged}
 use Rattle.walk.specs.declared.Lowest.{Lowest}
 use Rattle.walk.specs.declared.Lowest.the-variants.{Key, NoKey}
+use Rattle.walk.specs.Faults.{outOfRange, badHeader, badForm}
 
 -- "At a node with depth h it is damage if h < w, length > 15 or b > 15." "The branch place b is depth + length"
 unfoldable pub headOf : ℕ → ℕ → Head
@@ -45,8 +46,8 @@ below n j b c s = record { at = childWord n j c; depth = b + 1; nodes = s .nodes
 abbrev pub endOf : Spot → Ref → End
 endOf s Empty = AtEmpty s
 endOf s (Leaf i) = AtLeaf s i
-endOf s (Node j) = Damaged (s .nodes)
-endOf s Bad = Damaged (s .nodes)
+endOf s (Node j) = Damaged (s .nodes) (outOfRange (s .at))
+endOf s Bad = Damaged (s .nodes) (outOfRange (s .at))
 
 -- What stops a walk at a node whose header is accepted: a test of the key, the header word and the branch place.
 abbrev pub Test : Type 0
@@ -66,7 +67,7 @@ unlike key word b = differs word key
 
 -- It ends before the first node at which the test stops it. At most so many nodes are met as the first number says.
 unfoldable pub walkFrom : ℕ → List ℕ → ℕ → ℕ → Test → Spot → End
-walkFrom zero pool n key test s = Damaged (s .nodes)
+walkFrom zero pool n key test s = Damaged (s .nodes) (badForm (s .at))
 walkFrom (suc more) pool n key test s =
     elim (refOf n (wordAt pool (s .at))) [
       | Empty ↦ endOf s Empty
@@ -78,7 +79,7 @@ walkFrom (suc more) pool n key test s =
                   | true ↦ Stopped s j b
                   | false ↦ walkFrom more pool n key test (below n j b (digitOf key b) s)
                 ]
-            | Wrong ↦ Damaged (s .nodes)
+            | Wrong ↦ Damaged (s .nodes) (badHeader n j (s .depth) (headerAt pool n j))
           ]
       | Bad ↦ endOf s Bad
     ]
@@ -110,32 +111,32 @@ lowestChild pool n j = scan 16 0 (isChild pool n j)
 abbrev pub otherChild : List ℕ → ℕ → ℕ → ℕ → ℕ
 otherChild pool n j at = scan 16 0 (λ c. pick (eqb (childWord n j c) at) false (isChild pool n j c))
 
--- the key of a way down that has come to no node
-abbrev pub lowestEnd : List ℕ → Ref → Lowest
-lowestEnd pool Empty = NoKey
-lowestEnd pool (Leaf i) = Key (keyAt pool i)
-lowestEnd pool (Node j) = NoKey
-lowestEnd pool Bad = NoKey
+-- the key of a way down that has come, by the reference in the word `at`, to no node
+abbrev pub lowestEnd : List ℕ → ℕ → Ref → Lowest
+lowestEnd pool at Empty = NoKey (outOfRange at)
+lowestEnd pool at (Leaf i) = Key (keyAt pool i)
+lowestEnd pool at (Node j) = NoKey (outOfRange at)
+lowestEnd pool at Bad = NoKey (outOfRange at)
 
 -- "'Lowest leaf' below a reference means following the lowest non-empty child each time, under the walk's damage rules; a childless node is
--- damage." The reference r is met at walk depth w.
-unfoldable pub lowestFrom : ℕ → List ℕ → ℕ → ℕ → ℕ → Lowest
-lowestFrom zero pool n w r = NoKey
-lowestFrom (suc more) pool n w r =
+-- damage." The reference r, in the word `at`, is met at walk depth w.
+unfoldable pub lowestFrom : ℕ → List ℕ → ℕ → ℕ → ℕ → ℕ → Lowest
+lowestFrom zero pool n w at r = NoKey (badForm at)
+lowestFrom (suc more) pool n w at r =
     elim (refOf n r) [
-      | Empty ↦ lowestEnd pool Empty
-      | Leaf i ↦ lowestEnd pool (Leaf i)
+      | Empty ↦ lowestEnd pool at Empty
+      | Leaf i ↦ lowestEnd pool at (Leaf i)
       | Node j ↦
           elim (headOf w (headerAt pool n j)) [
             | Branch b ↦
                 elim (ltb (lowestChild pool n j) 16) [
-                  | true ↦ lowestFrom more pool n (b + 1) (childAt pool n j (lowestChild pool n j))
-                  | false ↦ NoKey
+                  | true ↦ lowestFrom more pool n (b + 1) (childWord n j (lowestChild pool n j)) (childAt pool n j (lowestChild pool n j))
+                  | false ↦ NoKey (badForm (nodeWord n j))
                 ]
-            | Wrong ↦ NoKey
+            | Wrong ↦ NoKey (badHeader n j w (headerAt pool n j))
           ]
-      | Bad ↦ lowestEnd pool Bad
+      | Bad ↦ lowestEnd pool at Bad
     ]
 
-abbrev pub lowestOf : List ℕ → ℕ → ℕ → ℕ → Lowest
-lowestOf pool n w r = lowestFrom 17 pool n w r
+abbrev pub lowestOf : List ℕ → ℕ → ℕ → ℕ → ℕ → Lowest
+lowestOf pool n w at r = lowestFrom 17 pool n w at r

@@ -3,6 +3,7 @@ ghost use mathlib.Core.Path.{_≡_};
 ghost use Prim.Native.Nat.{_+_, _<_, _≤_};
 ghost use Rattle.pool.specs.Sizes.{Sized};
 ghost use Rattle.pool.specs.Refs.{Within};
+ghost use Rattle.walk.specs.Faults.{badHeader};
 ghost use Rattle.walk.specs.Walks.{headOf, Between, root, below, endOf, walkTo, walkOf, childrenOf, lowestChild, otherChild, lowestEnd, lowestOf};
 use digits::Header;
 use pool::Ref;
@@ -28,6 +29,41 @@ pub fn accept(w: usize, word: u64) -> Head
         return Head::Wrong;
     }
     Head::Branch(b)
+}
+
+// Where damage was met and why: a word of the pool, and a reason.
+pub struct Fault {
+    pub word: usize,
+    pub reason: u64,
+}
+
+impl Fault {
+    // The reasons: a reference out of range, a header with too small a depth or with too large a branch place, all else.
+    pub const RANGE: u64 = 1;
+
+    pub const DEPTH: u64 = 2;
+
+    pub const BRANCH: u64 = 3;
+
+    pub const FORM: u64 = 4;
+
+    // Why node j is refused at walk depth w: its header, which `accept` did not take.
+    pub fn bad_header(n: usize, j: usize, w: usize, header: u64) -> Fault
+        requires { ⌜ (n ≤ 1024) × (j < 1024) ⌝ }
+        ensures { λ r. ⌜ r ≡ badHeader n j w header ⌝ }
+    {
+        let word = pool::node_word(n, j);
+        if Header::unpack(header).depth < w {
+            return Fault {
+                word,
+                reason: Fault::DEPTH,
+            };
+        }
+        Fault {
+            word,
+            reason: Fault::BRANCH,
+        }
+    }
 }
 
 // Where a walk stands.
@@ -72,23 +108,27 @@ impl Spot {
     }
 }
 
-// How a walk ends: at leaf i, at an empty reference, before node j that branches at b, or at damage after so many nodes.
+// How a walk ends: at leaf i, at an empty reference, before node j that branches at b, or at damage after so many nodes, with its word and reason.
 pub enum End {
     AtLeaf(Spot, usize),
     AtEmpty(Spot),
     Stopped(Spot, usize, usize),
-    Damaged(usize),
+    Damaged(usize, Fault),
 }
 
 // The end of a walk that has come to no node.
 fn ended(s: Spot, r: Ref) -> End
     ensures { λ e. ⌜ e ≡ endOf s r ⌝ }
 {
+    let fault = Fault {
+        word: s.at,
+        reason: Fault::RANGE,
+    };
     match r {
         Ref::Empty => End::AtEmpty(s),
         Ref::Leaf(i) => End::AtLeaf(s, i),
-        Ref::Node(_) => End::Damaged(s.nodes),
-        Ref::Bad => End::Damaged(s.nodes),
+        Ref::Node(_) => End::Damaged(s.nodes, fault),
+        Ref::Bad => End::Damaged(s.nodes, fault),
     }
 }
 
@@ -104,8 +144,9 @@ pub fn walk_to(pool: &[u64], n: usize, key: u64, stop: usize) -> End
         let Ref::Node(j) = r else {
             return ended(s, r);
         };
-        let Head::Branch(b) = accept(s.depth, pool::header(pool, n, j)) else {
-            return End::Damaged(s.nodes);
+        let header = pool::header(pool, n, j);
+        let Head::Branch(b) = accept(s.depth, header) else {
+            return End::Damaged(s.nodes, Fault::bad_header(n, j, s.depth, header));
         };
         if stop <= b {
             return End::Stopped(s, j, b);
@@ -170,45 +211,55 @@ pub fn other_child(pool: &[u64], n: usize, j: usize, at: usize) -> usize
     other
 }
 
-// The key of a lowest leaf, or damage on the way to it.
+// The key of a lowest leaf, or damage on the way to it, with its word and reason.
 pub enum Lowest {
     Key(u64),
-    NoKey,
+    NoKey(Fault),
 }
 
-// The key of the lowest leaf below the reference r, met at walk depth w.
-pub fn lowest_leaf(pool: &[u64], n: usize, w: usize, r: u64) -> Lowest
+// The key of the lowest leaf below the reference r, which stands in a word, for naming alone, and is met at walk depth w.
+pub fn lowest_leaf(pool: &[u64], n: usize, w: usize, word: usize, r: u64) -> Lowest
     requires { ⌜ Sized (now pool) n × (w ≤ 16) ⌝ }
-    ensures { λ k. ⌜ k ≡ lowestOf (now (pool .entry)) n w r ⌝ }
+    ensures { λ k. ⌜ k ≡ lowestOf (now (pool .entry)) n w word r ⌝ }
 {
     let mut depth = w;
-    let mut at = r;
+    let mut at = word;
+    let mut x = r;
     loop {
-        let s = pool::reference(n, at);
+        let s = pool::reference(n, x);
         let Ref::Node(j) = s else {
-            return lowest_end(pool, n, s);
+            return lowest_end(pool, n, at, s);
         };
-        let Head::Branch(b) = accept(depth, pool::header(pool, n, j)) else {
-            return Lowest::NoKey;
+        let header = pool::header(pool, n, j);
+        let Head::Branch(b) = accept(depth, header) else {
+            return Lowest::NoKey(Fault::bad_header(n, j, depth, header));
         };
         let c = lowest_child(pool, n, j);
         if Header::CHILDREN <= c {
-            return Lowest::NoKey;
+            return Lowest::NoKey(Fault {
+                word: pool::node_word(n, j),
+                reason: Fault::FORM,
+            });
         }
         depth = b + 1;
-        at = pool::child(pool, n, j, c);
+        at = pool::node_word(n, j) + 1 + c;
+        x = pool::child(pool, n, j, c);
     }
 }
 
-// The key of a way down that has come to no node.
-fn lowest_end(pool: &[u64], n: usize, r: Ref) -> Lowest
+// The key of a way down that has come, by the reference in a word, to no node.
+fn lowest_end(pool: &[u64], n: usize, at: usize, r: Ref) -> Lowest
     requires { ⌜ Sized (now pool) n × Within n r ⌝ }
-    ensures { λ k. ⌜ k ≡ lowestEnd (now (pool .entry)) r ⌝ }
+    ensures { λ k. ⌜ k ≡ lowestEnd (now (pool .entry)) at r ⌝ }
 {
+    let fault = Fault {
+        word: at,
+        reason: Fault::RANGE,
+    };
     match r {
         Ref::Leaf(i) => Lowest::Key(pool::leaf_key(pool, n, i)),
-        Ref::Empty => Lowest::NoKey,
-        Ref::Node(_) => Lowest::NoKey,
-        Ref::Bad => Lowest::NoKey,
+        Ref::Empty => Lowest::NoKey(fault),
+        Ref::Node(_) => Lowest::NoKey(fault),
+        Ref::Bad => Lowest::NoKey(fault),
     }
 }

@@ -182,13 +182,7 @@ pub fn remove(pool: &mut [u64], map: &mut [u8], removal: Removal) -> Done
 {
     match removal {
         Removal::Refused(number) => Done::refused(number),
-        Removal::Emptied(at, leaf) => switch(pool, map, at, 0, Effect::FreesLeaf(leaf)),
-        Removal::Bypassed(at, child, leaf, node) => {
-            switch(pool, map, at, child, Effect::FreesBoth(leaf, node))
-        }
-        Removal::Lifted(at, child, word, header, leaf, node) => {
-            let effect = Effect::FreesBoth(leaf, node);
-            lift(pool, map, at, child, word, header, effect)
-        }
+        Removal::Switched(s, effect) => switch(pool, map, s.at, s.child, effect),
+        Removal::Lifted(s, h, effect) => lift(pool, map, s.at, s.child, h.word, h.header, effect),
     }
 }

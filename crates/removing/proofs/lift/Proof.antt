@@ -53,12 +53,15 @@ pack-requires c κs =
     let h = rw (at-b .b .given .1) at (at-accept .accept .ensures .1) in
     omega arith
 
-add-t14 : tie.Need-add-t14
-add-t14 c = search needs
+add-with-node : tie.Need-add-with-node
+add-with-node c = search needs
+
+with-node-requires : tie.Need-with-node-requires
+with-node-requires c κs = search needs
 
 returns-3 : tie.Need-returns-3
 returns-3 c =
-    let at-node-word = c .before .before .before in
+    let at-node-word = c .before .before .before .before in
     let at-near = at-node-word .before .before in
     let at-lowest-leaf = at-near .before .before in
     let at-b = at-lowest-leaf .before .before in
@@ -71,7 +74,8 @@ returns-3 c =
       ← at-lowest-leaf .lowest-leaf .ensures,
       at-near .near .given .1,
       at-node-word .node-word .ensures,
-      c .before .pack .ensures,
+      c .before .before .pack .ensures,
+      c .with-node .ensures,
     )
 
 pub lift-spec : {M : Type 1} → statement M
@@ -90,5 +94,6 @@ lift-spec =
     node-word-requires
     sub-pack
     pack-requires
-    add-t14
+    add-with-node
+    with-node-requires
     returns-3)

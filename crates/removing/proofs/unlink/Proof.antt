@@ -1,4 +1,5 @@
 -- `unlink` goes by how many children the leaf's node has. Assumes nothing.
+use native.Mathlib.Omega.{arith}
 use borrow.Author.Tests.{lt-ltb, le-ltb}
 use borrow.Author.Needs.{needs}
 use Rattle.removing.proofs.unlink.Statement.{statement}
@@ -35,6 +36,15 @@ returns-3 c =
       le-ltb _ _ (c .if3 .taken),
     )
 
+node-word-requires : tie.Need-node-word-requires
+node-word-requires c κs = search needs
+
+add-at : tie.Need-add-at
+add-at c = omega (arith, c .node-word .ensures)
+
+add-at-2 : tie.Need-add-at-2
+add-at-2 c = omega (arith, c .node-word .ensures)
+
 child-requires : tie.Need-child-requires
 child-requires c κs = search needs
 
@@ -43,7 +53,7 @@ merge-requires c κs = search needs
 
 returns-4 : tie.Need-returns-4
 returns-4 c =
-    let at-if3 = c .before .before in
+    let at-if3 = c .before .before .before in
     let at-other-child = at-if3 .before in
     let at-if2 = at-other-child .before in
     let at-if1 = at-if2 .before in
@@ -55,6 +65,7 @@ returns-4 c =
       ← at-other-child .other-child .ensures,
       lt-ltb _ _ (at-if3 .if3 .left),
       ← c .before .child .ensures,
+      ← c .before .before .node-word .ensures,
     ) (c .merge .ensures)
 
 pub unlink-spec : {M : Type 1} → statement M
@@ -67,6 +78,9 @@ unlink-spec =
     returns-2
     other-child-requires
     returns-3
+    node-word-requires
+    add-at
+    add-at-2
     child-requires
     merge-requires
     returns-4)

@@ -24,13 +24,13 @@ returns : tie.Need-returns
 returns c = rw (c .before .before .r .given .1, c .leaf-key .ensures)
 
 returns-2 : tie.Need-returns-2
-returns-2 c = search needs
+returns-2 c = rw (c .enum-told .given .1)
 
 returns-3 : tie.Need-returns-3
-returns-3 c = search needs
+returns-3 c = rw (c .enum-told2 .given .1)
 
 returns-4 : tie.Need-returns-4
-returns-4 c = search needs
+returns-4 c = rw (c .enum-told3 .given .1)
 
 pub lowest-end-spec : {M : Type 1} → statement M
 lowest-end-spec =

@@ -1,11 +1,12 @@
 -- `walk_to` goes on as the walk does: from where it stands the walk comes to the end of the whole walk. Assumes nothing.
-use mathlib.Core.Path.{_≡_, refl, sym, _∙_}
+use mathlib.Core.Path.{_≡_, refl, sym, _∙_, subst}
 use Prim.Native.Nat.{_-_}
 use native.Mathlib.Omega.{arith}
 use borrow.Author.Needs.{needs}
 use borrow.Author.Tests.{le-leb, lt-leb}
 use Rattle.digits.proofs.Digits.{digit-lt}
 use Rattle.pool.specs.Places.{wordAt}
+use Rattle.pool.specs.Refs.{Within}
 use Rattle.walk.specs.Walks.{past, walkFrom, walkTo}
 use Rattle.walk.specs.Ends.{Accepted, Inside}
 use Rattle.walk.proofs.Heads.{unmatched, refused, accepted}
@@ -86,11 +87,18 @@ enum-known-b c = search needs
 enum-told : tie.Need-enum-told Inv-loop μ-loop
 enum-told c = search needs
 
+bad-header-requires : tie.Need-bad-header-requires Inv-loop μ-loop
+bad-header-requires c κs =
+    let t = c .before .before in
+    let j = subst (Within _) (at-node t .r .given .1) (at-reference t .reference .ensures .1) in
+    (search needs, omega arith)
+
 returns-2 : tie.Need-returns-2 Inv-loop μ-loop
 returns-2 c =
-    let t = c .before .before in
-    let a = refused _ _ _ _ (at-reference t .reference .ensures .0) (at-node t .r .given .1) (t .before .header .ensures) (t .accept .ensures .0) (c .enum-told .given .1) in
-    sym (walk-damaged _ _ _ _ 16 _ _ a) ∙ at-loop t .loop .inv .1
+    let t = c .before .before .before in
+    let a = refused _ _ _ _ (at-reference t .reference .ensures .0) (at-node t .r .given .1) (t .before .header .ensures) (t .accept .ensures .0)
+    (c .before .enum-told .given .1) in
+    rw (c .bad-header .ensures, t .before .header .ensures) (sym (walk-damaged _ _ _ _ 16 _ _ a) ∙ at-loop t .loop .inv .1)
 
 returns-3 : tie.Need-returns-3 Inv-loop μ-loop
 returns-3 c =
@@ -135,6 +143,7 @@ walk-to-spec =
     accept-requires
     enum-known-b
     enum-told
+    bad-header-requires
     returns-2
     returns-3
     digit-requires

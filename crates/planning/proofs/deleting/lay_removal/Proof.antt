@@ -1,7 +1,6 @@
 -- `lay_removal` lays out each kind of removal. Assumes nothing.
 use native.Mathlib.Omega.{arith}
 use borrow.Author.Needs.{needs}
-use Rattle.plan.specs.declared.Effect.the-variants.{FreesLeaf, FreesBoth}
 use Rattle.plan.specs.Plans.{theSwitch}
 use Rattle.planning.proofs.Plans.{gathered-none, gathered-laid, blank-holding}
 use Rattle.planning.proofs.deleting.lay_removal.Statement.{statement}
@@ -9,9 +8,6 @@ use Rattle.planning.proofs.deleting.lay_removal.Tie as tie
 
 switching-requires : tie.Need-switching-requires
 switching-requires c κs = blank-holding (c .before .before .before .before .before .before .before .pre) 1 (omega arith)
-
-switching-requires-2 : tie.Need-switching-requires-2
-switching-requires-2 c κs = blank-holding (c .before .before .before .before .before .before .before .pre) 1 (omega arith)
 
 lifting-requires : tie.Need-lifting-requires
 lifting-requires c κs = blank-holding (c .before .before .before .before .before .before .before .pre) 2 (omega arith)
@@ -24,19 +20,13 @@ returns-2 : tie.Need-returns-2
 returns-2 c =
     let laid = c .before .before .before .before in
     let r = laid .before .before .before .before in
-    rw (r .r2 .given .1) (gathered-laid theSwitch (r .before .before .before .before .pre) (FreesLeaf _) (omega arith) (laid .switching .ensures))
+    rw (r .r2 .given .1) (gathered-laid theSwitch (r .before .before .before .before .pre) _ (omega arith) (laid .switching .ensures))
 
 returns-3 : tie.Need-returns-3
 returns-3 c =
     let laid = c .before .before .before .before in
     let r = laid .before .before .before .before in
-    rw (r .r3 .given .1) (gathered-laid theSwitch (r .before .before .before .before .pre) (FreesBoth _ _) (omega arith) (laid .switching2 .ensures))
-
-returns-4 : tie.Need-returns-4
-returns-4 c =
-    let laid = c .before .before .before .before in
-    let r = laid .before .before .before .before in
-    rw (r .r4 .given .1) (gathered-laid theSwitch (r .before .before .before .before .pre) (FreesBoth _ _) (omega arith) (laid .lifting .ensures))
+    rw (r .r3 .given .1) (gathered-laid theSwitch (r .before .before .before .before .pre) _ (omega arith) (laid .lifting .ensures))
 
 pub lay-removal-spec : {M : Type 1} → statement M
 lay-removal-spec =
@@ -47,8 +37,6 @@ lay-removal-spec =
     (λ c. search needs)
     switching-requires
     (λ c. search needs)
-    switching-requires-2
-    (λ c. search needs)
     lifting-requires
     returns
     (λ c. search needs)
@@ -56,7 +44,4 @@ lay-removal-spec =
     returns-2
     (λ c. search needs)
     (λ c. search needs)
-    returns-3
-    (λ c. search needs)
-    (λ c. search needs)
-    returns-4)
+    returns-3)

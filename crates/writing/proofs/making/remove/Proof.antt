@@ -9,15 +9,10 @@ switch-requires c κs =
     let removal = c .before .before .before in
     rw (removal .removal2 .given .1) at (removal .before .before .before .before .pre)
 
-switch-requires-2 : tie.Need-switch-requires-2
-switch-requires-2 c κs =
-    let removal = c .before .before .before in
-    rw (removal .removal3 .given .1) at (removal .before .before .before .before .pre)
-
 lift-requires : tie.Need-lift-requires
 lift-requires c κs =
     let removal = c .before .before .before in
-    rw (removal .removal4 .given .1) at (removal .before .before .before .before .pre)
+    rw (removal .removal3 .given .1) at (removal .before .before .before .before .pre)
 
 returns : tie.Need-returns
 returns c = rw (c .before .before .removal .given .1, c .refused .ensures) (whole-none _ _ _)
@@ -30,12 +25,7 @@ returns-2 c =
 returns-3 : tie.Need-returns-3
 returns-3 c =
     let whole = c .before .before .before .before in
-    rw (whole .before .before .before .before .removal3 .given .1) (whole .switch2 .ensures)
-
-returns-4 : tie.Need-returns-4
-returns-4 c =
-    let whole = c .before .before .before .before in
-    rw (whole .before .before .before .before .removal4 .given .1) (whole .lift .ensures)
+    rw (whole .before .before .before .before .removal3 .given .1) (whole .lift .ensures)
 
 pub remove-spec : {M : Type 1} → statement M
 remove-spec =
@@ -46,8 +36,6 @@ remove-spec =
     (λ c. search needs)
     switch-requires
     (λ c. search needs)
-    switch-requires-2
-    (λ c. search needs)
     lift-requires
     returns
     (λ c. search needs)
@@ -55,7 +43,4 @@ remove-spec =
     returns-2
     (λ c. search needs)
     (λ c. search needs)
-    returns-3
-    (λ c. search needs)
-    (λ c. search needs)
-    returns-4)
+    returns-3)
