@@ -1,4 +1,6 @@
 // What `names` prints: an answer to bytes. Its text is made from its last byte to its first, as digits are, and then goes onto the page.
+#![tactic(auto)]
+
 ghost use Rattle.std.specs.Prelude.{◌≡◌, ◌∷◌, ◌++◌, ◌+◌, ◌*◌, ◌≤◌, ◌<◌, min, length, drop};
 ghost use Rattle.script.specs.Bytes.{tab};
 ghost use Rattle.answers.specs.Numbers.{glyph_of, places_in, last_digits};

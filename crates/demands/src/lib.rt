@@ -1,1 +1,2 @@
 // No code: what the auditor is handed, and its proofs.
+#![tactic(auto)]

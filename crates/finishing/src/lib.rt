@@ -1,4 +1,6 @@
 // Finishing: what a plan does to the map.
+#![tactic(auto)]
+
 ghost use Rattle.std.specs.Prelude.{◌≡◌, length, replicate};
 ghost use Rattle.plan.specs.Plans.{after, store_of};
 ghost use Rattle.finishing.specs.Finishes.{stores_of, finish_of, FinishGives};

@@ -1,4 +1,6 @@
 // A plan as a run of words, as include/wort.h has it: handed out, and taken in again.
+#![tactic(auto)]
+
 ghost use Rattle.std.specs.Prelude.{◌≡◌, [], ◌∷◌, ◌++◌, length, get_or, take};
 ghost use Rattle.std.proofs.lemmas.List.Edits.{sets};
 ghost use Rattle.handing.specs.Plans.{effect_words, spared, words_of, effect_of, plan_in, planned, planned_in};

@@ -1,5 +1,7 @@
 // What each operation stores, in order, laid out in the first places of two lent lists: the word numbers in one, the values in the other. The plan of
 // an operation and its whole call are made of the same lists.
+#![tactic(auto)]
+
 ghost use Rattle.std.specs.Prelude.{[], ◌∷◌, ◌+◌, ◌<◌, ◌≤◌, length};
 ghost use Rattle.tree.specs.Stores.{block};
 ghost use Rattle.layout.specs.Operations.{store, put_stores, delete_stores, replacing, growing, bypassing};

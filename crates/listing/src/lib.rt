@@ -1,4 +1,6 @@
 // Listing: a visit of a reference, and of a node's sixteen references, lowest first.
+#![tactic(auto)]
+
 ghost use Rattle.std.specs.Prelude.{◌≡◌, false, ◌+◌, ◌-◌, ◌<◌, ◌≤◌, length, replicate};
 ghost use Rattle.digits.specs.Loops.{scan};
 ghost use Rattle.pool.specs.Sizes.{Sized};

@@ -1,4 +1,6 @@
 // The program `names`: reads commands from standard input, and writes their answers to standard output.
+#![tactic(auto)]
+
 use libc::{STDIN_FILENO, STDOUT_FILENO};
 use stream::{End, Sink};
 

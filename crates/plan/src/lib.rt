@@ -1,4 +1,6 @@
 // Plans: at most 21 stores in order, each made by one step, and what they do to the map; and the one loop that makes stores.
+#![tactic(auto)]
+
 ghost use Rattle.std.specs.Prelude.{◌≡◌, [], ◌∷◌, ◌≤◌, min, length};
 ghost use Rattle.plan.specs.Plans.{all_but_last, the_switch, one_group, known, fences_of, fenced, plan_of, refused, planned_of, after, store_of, step_of, StepGives, ran, stores_in, makes_of, RunGives};
 

@@ -1,4 +1,6 @@
 // The plans of a put and a delete: what each stores, in order.
+#![tactic(auto)]
+
 mod deleting;
 mod laid;
 mod putting;

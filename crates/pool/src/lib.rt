@@ -1,4 +1,6 @@
 // A pool's sizes, references and places. All later code takes them from these functions.
+#![tactic(auto)]
+
 ghost use Rattle.std.specs.Prelude.{◌≡◌, ◌+◌, ◌<◌, ◌≤◌};
 ghost use Rattle.pool.specs.Sizes.{size_of, capacity_of, Sized, Measured};
 ghost use Rattle.pool.specs.Places.{leaf_word, node_word, key_at, value_at, header_at_lem, child_at, leaf_ref, node_ref};

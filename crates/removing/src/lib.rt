@@ -1,4 +1,6 @@
 // What a delete comes to, in any pool.
+#![tactic(auto)]
+
 ghost use Rattle.std.specs.Prelude.{◌≡◌, ◌+◌, ◌<◌, ◌≤◌};
 ghost use Rattle.pool.specs.Sizes.{Sized, capacity_of};
 ghost use Rattle.removing.specs.Removals.{decided_by};

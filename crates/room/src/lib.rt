@@ -1,4 +1,6 @@
 // The lowest free slots of a map.
+#![tactic(auto)]
+
 ghost use Rattle.std.specs.Prelude.{◌≡◌, ◌+◌, ◌<◌, ◌≤◌, eqb, length, get_or};
 ghost use Rattle.digits.specs.Choice.{pick};
 ghost use Rattle.digits.specs.Loops.{tally};

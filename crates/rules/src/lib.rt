@@ -1,4 +1,5 @@
 // No code: which stores a put and a delete come to, and that they put and delete. Here are the types that the definitions speak of.
+#![tactic(auto)]
 
 // What is split: the word of the reference, the walk depth there, what it refers to, a key below that, and the first digit in which the new key
 // differs from it.

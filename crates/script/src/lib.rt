@@ -1,4 +1,6 @@
 // What `names` reads: bytes to lines, a line to a command, a command to a turn.
+#![tactic(auto)]
+
 mod input;
 mod lines;
 mod turns;

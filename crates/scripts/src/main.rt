@@ -1,4 +1,6 @@
 // Runs the scripts that standard input names, each with the file of its answers, and says whether `names` answers so.
+#![tactic(auto)]
+
 ghost use Rattle.std.specs.Prelude.{◌≤◌, length};
 
 use libc::{STDIN_FILENO, STDOUT_FILENO};

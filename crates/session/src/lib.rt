@@ -1,4 +1,6 @@
 // A session of `names`: how it starts, and a run of the bytes of its input.
+#![tactic(auto)]
+
 mod bytes;
 mod starting;
 

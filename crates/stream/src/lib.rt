@@ -1,4 +1,6 @@
 // A session from one descriptor to another: reads, lends what it read to the session, and hands on what the session printed.
+#![tactic(auto)]
+
 ghost use Rattle.std.specs.Prelude.{◌≤◌, length};
 ghost use Rattle.session.specs.Bytes.{most};
 

@@ -1,4 +1,6 @@
 // The survey of a whole pool: whether all that is reached from the root is sound, and what is reached. It leaves at the first damage.
+#![tactic(auto)]
+
 ghost use Rattle.std.specs.Prelude.{◌≡◌, true, false, ◌+◌, ◌<◌, ◌≤◌, length, replicate};
 ghost use Rattle.pool.specs.Sizes.{Sized, bytes_of};
 ghost use Rattle.pool.specs.Places.{header_at_lem};

@@ -1,1 +1,2 @@
 // No code: the theory of the tree that a pool holds.
+#![tactic(auto)]

@@ -1,4 +1,6 @@
 // What a turn does to the pool and the map, and what goes onto the page.
+#![tactic(auto)]
+
 ghost use Rattle.std.specs.Prelude.{◌≡◌, [], ◌∷◌, replicate};
 ghost use Rattle.finding.specs.Lookups.{told, lookup_of};
 ghost use Rattle.listing.specs.Listings.{list_of};

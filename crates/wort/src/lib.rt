@@ -1,4 +1,6 @@
 // The C interface, as include/wort.h declares it: each function hands on to the library.
+#![tactic(auto)]
+
 ghost use Rattle.std.specs.Prelude.{◌≡◌};
 ghost use Rattle.digits.specs.Choice.{pick};
 ghost use Rattle.plan.specs.Plans.{after, StepGives};

@@ -1,4 +1,6 @@
 // Writing a pool: format, and put and delete whole.
+#![tactic(auto)]
+
 mod calls;
 mod making;
 
