@@ -69,7 +69,7 @@ module _ (dig : ℕ → ℕ → ℕ) (dl : (k i : ℕ) → dig k i < 16) (D : �
           let C : Child dig ρ c x b s kids t = child dig ρ c x b s kids t lc p in
           record {
             gone = λ k leads.
-                let a : Agree dig (b + 1) (upd (dig s) b c) k = rw (C.dep_is 0, C.Pre-is (λ i. 0)) at leads in
+                let a : Agree dig (b + 1) (upd (dig s) b c) k = rw (C.dep_is 0, C.pre_is (λ i. 0)) at leads in
                 find_there dig D ρ 0 (λ i. 0) t (kids o) k p.on good
                 (agree_up dig (dep ρ 0 t) b c s (pre dig ρ (λ i. 0) t) k node_good.0 node_good.2 a)
                 ∙ off k (λ z. apart (sym (a b (omega arith) ∙ upd_at (dig s) b c) ∙ z));
