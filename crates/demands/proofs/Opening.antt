@@ -7,7 +7,7 @@ use Prim.Native.Nat.{ℕ, ◌+◌, ◌-◌, ◌≤◌}
 use native.Mathlib.Omega.{arith}
 use lib.ListN.{length}
 use Rattle.pool.specs.Sizes.{capacity_of, bytes_of}
-use Rattle.pool.specs.Places.{header_at_lem}
+use Rattle.pool.specs.Places.{header_at}
 use Rattle.pool.specs.declared.Size.TheVariants.{Holds}
 use Rattle.digits.specs.Headers.{depth_of}
 use Rattle.tree.specs.Tree.{Tree, node, dep, find, Stands}
@@ -46,7 +46,7 @@ module _ (pool : List ℕ) (n : ℕ) (pos : 1 ≤ n) (cap : n ≤ 1024) (t : Tre
   mended_straight : Straight mended
   mended_straight = straight_if mended n t fits' P'.held depths
     where
-      depths : (π : List ℕ) (x b s : ℕ) (kids : ℕ → Tree ℕ) → Stands π (node x b s kids) t → depth_of (header_at_lem mended n (x - n)) ≡ dep π 0 t
+      depths : (π : List ℕ) (x b s : ℕ) (kids : ℕ → Tree ℕ) → Stands π (node x b s kids) t → depth_of (header_at mended n (x - n)) ≡ dep π 0 t
       depths π x b s kids st =
           let slot = node_slot 16 n (mem mended) t P'.held π x b s kids st in
           let back : x ≡ n + (x - n) = omega (arith, slot) in

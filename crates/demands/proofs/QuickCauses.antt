@@ -12,7 +12,7 @@ use lib.Dec.{eqb}
 use Rattle.digits.specs.Headers.{stored_at, used_of, prefix_at, differs}
 use Rattle.digits.specs.Loops.{scan}
 use Rattle.digits.proofs.Differs.{alike_none_differs, unlike_one_differs}
-use Rattle.pool.specs.Places.{header_at_lem}
+use Rattle.pool.specs.Places.{header_at}
 use Rattle.pool.specs.declared.Ref.TheVariants.{Empty, Leaf}
 use Rattle.walk.specs.Walks.{unlike, walk_of, quick_walk}
 use Rattle.walk.proofs.Ends.{walk_unstopped}
@@ -29,7 +29,7 @@ module _ (pool : List ℕ) (n key : ℕ) where
   -- ---- the digits that node j stores
   module _ (j : ℕ) where
     abbrev word : ℕ
-    word = header_at_lem pool n j
+    word = header_at pool n j
 
     abbrev apart : ℕ → Bool
     apart c = not (eqb (stored_at word c) (prefix_at 16 word key c))
@@ -88,8 +88,8 @@ module _ (pool : List ℕ) (n key : ℕ) where
   unaccepted : {i w j : ℕ} → Broken pool n i w → Accepted pool n i w j → ⊥
   unaccepted (bad e) a = let z : ◌≡◌ {A = ℕ} 0 1 = cc a.node in omega arith
   unaccepted (low e h) a = omega (arith, h, a.deep, ap (depth pool n) (same_node pool n refl e a.node))
-  unaccepted (long e h) a = omega (arith, h, a.high, ap (λ (x : ℕ). header_at_lem pool n x) (same_node pool n refl e a.node))
-  unaccepted (far e h) a = omega (arith, h, a.high, ap (λ (x : ℕ). header_at_lem pool n x) (same_node pool n refl e a.node))
+  unaccepted (long e h) a = omega (arith, h, a.high, ap (λ (x : ℕ). header_at pool n x) (same_node pool n refl e a.node))
+  unaccepted (far e h) a = omega (arith, h, a.high, ap (λ (x : ℕ). header_at pool n x) (same_node pool n refl e a.node))
 
   here : {i w m i' w' m' j : ℕ} → Way pool n key i w m → Way pool n key i' w' m' → Accepted pool n i' w' j → m ≡ m' → (j : ℕ) × Accepted pool n i w j
   here {j = j} W W' a e = let o = one_way pool n W W' e in (j, rw (o.0, o.1) a)

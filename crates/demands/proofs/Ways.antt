@@ -15,7 +15,7 @@ use Rattle.digits.specs.Digits.{digit_of}
 use Rattle.digits.specs.Headers.{length_of}
 use Rattle.digits.proofs.Loops.{tally_none, tally_some}
 use Rattle.pool.specs.Sizes.{size_of, capacity_of, Sized}
-use Rattle.pool.specs.Places.{word_at, header_at_lem, child_at, node_word, child_word}
+use Rattle.pool.specs.Places.{word_at, header_at, child_at, node_word, child_word}
 use Rattle.pool.specs.Refs.{Within}
 use Rattle.pool.specs.declared.Size.TheVariants.{Holds}
 use Rattle.pool.specs.declared.Ref.{Ref}
@@ -92,7 +92,7 @@ module _ (pool : List ℕ) (n : ℕ) where
         j< = l;
         head = rw (
           le-ltb (depth pool n j) w a.deep,
-          le-ltb 15 (length_of (header_at_lem pool n j)) (omega (arith, a.high)),
+          le-ltb 15 (length_of (header_at pool n j)) (omega (arith, a.high)),
           le-ltb 15 (branch pool n j) a.high,
         );
         w≤b = omega (arith, a.deep);
@@ -104,14 +104,14 @@ module _ (pool : List ℕ) (n : ℕ) where
   unfolding head_of
   broken_case (bad e) f g = f e
   broken_case {w = w} (low {j} e h) f g = g j (record { refers = e; head = rw (lt-ltb (depth pool n j) w h) })
-  broken_case {w = w} (long {j} e h) f g = g j (record { refers = e; head = too_deep w (header_at_lem pool n j) (omega arith) })
-  broken_case {w = w} (far {j} e h) f g = g j (record { refers = e; head = too_deep w (header_at_lem pool n j) h })
+  broken_case {w = w} (long {j} e h) f g = g j (record { refers = e; head = too_deep w (header_at pool n j) (omega arith) })
+  broken_case {w = w} (far {j} e h) f g = g j (record { refers = e; head = too_deep w (header_at pool n j) h })
 
   -- the word and the reason of damage at word i, met at walk depth w
   abbrev pub fault_of : ℕ → ℕ → Ref → Fault
   fault_of i w Empty = bad_form i
   fault_of i w (Leaf l) = bad_form i
-  fault_of i w (Node j) = bad_header n j w (header_at_lem pool n j)
+  fault_of i w (Node j) = bad_header n j w (header_at pool n j)
   fault_of i w Bad = out_of_range i
 
   abbrev pub fault_at : ℕ → ℕ → Fault
@@ -157,7 +157,7 @@ module _ (pool : List ℕ) (n : ℕ) where
       -- no node before the end of a way stops a walk with this test
       abbrev pub Passes : {i w m : ℕ} → Way pool n key i w m → Type 0
       Passes root = Unit {0}
-      Passes (past {j = j} W a) = Passes W × (test key (header_at_lem pool n j) (branch pool n j) ≡ false)
+      Passes (past {j = j} W a) = Passes W × (test key (header_at pool n j) (branch pool n j) ≡ false)
 
       -- so the walk comes along it
       comes : {i w m : ℕ} (W : Way pool n key i w m) → Passes W → walk_from 17 pool n key test walk.root ≡ walk_from 17 pool n key test (spot W)
@@ -180,7 +180,7 @@ module _ (pool : List ℕ) (n : ℕ) where
             broken_case b (λ e. passes_ends Bad e tt ∙ rw (s.0, s.2, e))
             (λ j r. comes W p ∙ walk_damaged pool n key test 16 (spot W) j (rw (s.0, s.1) r) ∙ rw (s.1, s.2, r.refers))
 
-        pub passes_stops : {j : ℕ} → Accepted pool n i w j → test key (header_at_lem pool n j) (branch pool n j) ≡ true
+        pub passes_stops : {j : ℕ} → Accepted pool n i w j → test key (header_at pool n j) (branch pool n j) ≡ true
             → walk_from 17 pool n key test walk.root ≡ Stopped (spot W) j (branch pool n j)
         passes_stops {j} a l =
             let s = spot_is W in

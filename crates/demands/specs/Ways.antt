@@ -7,7 +7,7 @@ use Rattle.digits.specs.Choice.{pick}
 use Rattle.digits.specs.Digits.{digit_in, digit_of, first_diff}
 use Rattle.digits.specs.Headers.{length_of}
 use Rattle.pool.specs.Sizes.{bytes_of}
-use Rattle.pool.specs.Places.{word_at, key_at, value_at, header_at_lem, child_at, child_word}
+use Rattle.pool.specs.Places.{word_at, key_at, value_at, header_at, child_at, child_word}
 use Rattle.pool.specs.declared.Ref.TheVariants.{Empty, Leaf, Node, Bad}
 use Rattle.walk.specs.Walks.{children_of}
 use Rattle.finding.specs.Lookups.{Answer, answer}
@@ -32,7 +32,7 @@ module _ (pool : List ℕ) (n : ℕ) where
   pub data Broken (i w : ℕ) : Type 0 where
     bad : at pool n i ≡ Bad → Broken i w
     low : {j : ℕ} → at pool n i ≡ Node j → depth pool n j < w → Broken i w
-    long : {j : ℕ} → at pool n i ≡ Node j → 15 < length_of (header_at_lem pool n j) → Broken i w
+    long : {j : ℕ} → at pool n i ≡ Node j → 15 < length_of (header_at pool n j) → Broken i w
     far : {j : ℕ} → at pool n i ≡ Node j → 15 < branch pool n j → Broken i w
 
   -- "Otherwise": it is to node j, whose header is accepted
@@ -90,8 +90,8 @@ module _ (pool : List ℕ) (n : ℕ) where
   -- the prefix, first digit highest"
   pub record Unlike (key j c : ℕ) : Type 0 where
     pub stored : c < 12
-    pub used : c < length_of (header_at_lem pool n j)
-    pub digit : digit_in 12 (header_at_lem pool n j) c ≢ digit_of key (depth pool n j + c)
+    pub used : c < length_of (header_at pool n j)
+    pub digit : digit_in 12 (header_at pool n j) c ≢ digit_of key (depth pool n j + c)
 
   -- such a place has the node to which the walk along the key comes past m others
   pub data Differing (key : ℕ) : ℕ → Type 0 where

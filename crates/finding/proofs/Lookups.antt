@@ -9,7 +9,7 @@ use borrow.Author.Tests.{lt-leb}
 use Rattle.digits.specs.Digits.{digit_of}
 use Rattle.digits.specs.Headers.{differs}
 use Rattle.pool.specs.Sizes.{capacity_of}
-use Rattle.pool.specs.Places.{word_at, header_at_lem, child_at}
+use Rattle.pool.specs.Places.{word_at, header_at, child_at}
 use Rattle.pool.specs.Refs.{ref_of}
 use Rattle.pool.specs.declared.Size.{Size}
 use Rattle.pool.specs.declared.Size.TheVariants.{Holds, Wrong}
@@ -54,14 +54,14 @@ module _ {pool : List ℕ} {n key : ℕ} {test : Test} where
     ends_here r e h = sym (walk_ends pool n key test 16 c.spot r (rw c.word (sym e)) h) ∙ c.onward
 
     damaged_here : {j : ℕ} → Refused pool n w x j
-        → Damaged nodes (bad_header n j w (header_at_lem pool n j)) ≡ walk_from 17 pool n key test root
+        → Damaged nodes (bad_header n j w (header_at pool n j)) ≡ walk_from 17 pool n key test root
     damaged_here {j} g = rw (← c.passed, ← c.depth) (sym (walk_damaged pool n key test 16 c.spot j (rw (c.depth, c.word) g)) ∙ c.onward)
 
-    stopped_here : {j b : ℕ} → Accepted pool n w x j b → test key (header_at_lem pool n j) b ≡ true → Stopped c.spot j b ≡ walk_from 17 pool n key test root
+    stopped_here : {j b : ℕ} → Accepted pool n w x j b → test key (header_at pool n j) b ≡ true → Stopped c.spot j b ≡ walk_from 17 pool n key test root
     stopped_here {j} {b} a t = sym (walk_stops pool n key test 16 c.spot j b (rw (c.depth, c.word) a) t) ∙ c.onward
 
     -- past an accepted node, to the child chosen by its digit
-    pub comes_below : {j b y d : ℕ} → Accepted pool n w x j b → test key (header_at_lem pool n j) b ≡ false → d ≡ digit_of key b → y ≡ child_at pool n j d
+    pub comes_below : {j b y d : ℕ} → Accepted pool n w x j b → test key (header_at pool n j) b ≡ false → d ≡ digit_of key b → y ≡ child_at pool n j d
         → Comes pool n key test y (b + 1) (nodes + 1)
     comes_below {j} {b} {y} {d} a t e q =
         record {
@@ -116,7 +116,7 @@ module _ {pool : List ℕ} {n key x w nodes : ℕ} (c : Comes pool n key unlike 
   quick_comes_damaged g = ap (quick_at pool key) (damaged_here c g)
 
   -- "stops at the first that differs"
-  pub quick_comes_unlike : {j b : ℕ} → Accepted pool n w x j b → differs (header_at_lem pool n j) key ≡ true
+  pub quick_comes_unlike : {j b : ℕ} → Accepted pool n w x j b → differs (header_at pool n j) key ≡ true
       → answer 3 0 (nodes + 1) ≡ quick_at pool key (quick_walk pool n key)
   quick_comes_unlike a t = rw (← c.passed) (ap (quick_at pool key) (stopped_here c a t))
 

@@ -9,7 +9,7 @@ use borrow.Author.Tests.{ltb-true, le-ltb}
 use lib.Dec.{eqb, ltb}
 use Rattle.digits.specs.Choice.{pick}
 use Rattle.digits.specs.Headers.{depth_of, length_of, stored_in}
-use Rattle.pool.specs.Places.{header_at_lem, child_at}
+use Rattle.pool.specs.Places.{header_at, child_at}
 use Rattle.pool.specs.Refs.{ref_of}
 use Rattle.pool.specs.declared.Ref.TheVariants.{Empty, Node}
 use Rattle.tree.specs.Tree.{Tree, empty, leaf, node}
@@ -81,7 +81,7 @@ module _ (pool : List ℕ) (n w r : ℕ) where
     pub ref : ref_of n r ≡ Node (x - n)
     pub past : n ≤ x
     pub within : x + 1 < n + n
-    pub shown : Shown h b (stored_in 16 12 h (b - h) s) (header_at_lem pool n (x - n))
+    pub shown : Shown h b (stored_in 16 12 h (b - h) s) (header_at pool n (x - n))
 
   pub held_head : (x b s : ℕ) (kids : ℕ → Tree ℕ) → Holds (base 16 n) (mem pool) w r (node x b s kids) → Headed x b s
   unfolding Holds base
@@ -95,7 +95,7 @@ module _ (pool : List ℕ) (n w r : ℕ) where
         ref = see.ref;
         past = see.low;
         within = see.high;
-        shown = head_shown x h b (stored_in 16 12 h (b - h) s) (header_at_lem pool n (x - n)) see.head;
+        shown = head_shown x h b (stored_in 16 12 h (b - h) s) (header_at pool n (x - n)) see.head;
       }
 
   pub held_node : (x b s : ℕ) (kids : ℕ → Tree ℕ) → Holds (base 16 n) (mem pool) w r (node x b s kids) → Accepted pool n w r (x - n) b
@@ -104,7 +104,7 @@ module _ (pool : List ℕ) (n w r : ℕ) where
       record {
         refers = H.ref;
         j< = omega (arith, H.past, H.within);
-        head = head_accepted w H.h b (stored_in 16 12 H.h (b - H.h) s) (header_at_lem pool n (x - n)) H.shown H.low;
+        head = head_accepted w H.h b (stored_in 16 12 H.h (b - H.h) s) (header_at pool n (x - n)) H.shown H.low;
         w≤b = omega (arith, H.low, H.high);
         b< = H.shown.most;
       }

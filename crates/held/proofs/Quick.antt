@@ -9,7 +9,7 @@ use Rattle.digits.specs.Digits.{digit_of}
 use Rattle.digits.specs.Headers.{length_of, differs}
 use Rattle.digits.proofs.Digits.{digit_lt}
 use Rattle.digits.proofs.Differs.{header_alike}
-use Rattle.pool.specs.Places.{word_at, header_at_lem}
+use Rattle.pool.specs.Places.{word_at, header_at}
 use Rattle.pool.specs.declared.Ref.TheVariants.{Leaf}
 use Rattle.tree.specs.Tree.{Tree, empty, leaf, node, upd, Agree, find, Good}
 use Rattle.tree.specs.Shape.{Holds}
@@ -26,9 +26,9 @@ use Rattle.held.proofs.Heads.{Headed, held_leaf, held_head, held_node, held_chil
 
 module _ (pool : List ℕ) (n key : ℕ) where
   -- a key that agrees with a node's keys before its branch place does not differ from what its header stores, from whichever depth
-  agreeing_alike : {w r x b s : ℕ} → Headed pool n w r x b s → Agree dig b (dig s) key → differs (header_at_lem pool n (x - n)) key ≡ false
+  agreeing_alike : {w r x b s : ℕ} → Headed pool n w r x b s → Agree dig b (dig s) key → differs (header_at pool n (x - n)) key ≡ false
   agreeing_alike {x = x} {b = b} {s = s} H a =
-      let word = header_at_lem pool n (x - n) in
+      let word = header_at pool n (x - n) in
       let l : length_of word ≡ b - H.h = omega (arith, H.shown.depth, H.shown.branch) in
       header_alike 16 word H.h (b - H.h) s key H.shown.depth l H.shown.digits (λ i h. a (H.h + i) (omega arith))
 
@@ -42,7 +42,7 @@ module _ (pool : List ℕ) (n key : ℕ) where
       absurd (u (rw (walk_ends pool n key unlike f s (Leaf x) (held_leaf pool n s.depth (word_at pool s.at) x k v h).ref tt) tt))
   stopped_absent (suc f) s q (node x b k kids) h g u =
       go (stopped_absent f (below n (x - n) b c s) (upd (dig k) b c) (kids c) (held_child pool n w r x b k kids c h c<) (g.3 c c<))
-      (differs (header_at_lem pool n (x - n)) key) refl (find dig key (kids c)) refl
+      (differs (header_at pool n (x - n)) key) refl (find dig key (kids c)) refl
     where
       w : ℕ
       w = s.depth
@@ -63,7 +63,7 @@ module _ (pool : List ℕ) (n key : ℕ) where
       own = (omega arith, g.1, λ i l. refl, g.3, g.4)
 
       go : ((Unstopped (walk_from f pool n key unlike (below n (x - n) b c s)) → ⊥) → find dig key (kids c) ≡ none)
-          → (d : Bool) → differs (header_at_lem pool n (x - n)) key ≡ d → (o : Option ℕ) → find dig key (kids c) ≡ o → find dig key (kids c) ≡ none
+          → (d : Bool) → differs (header_at pool n (x - n)) key ≡ d → (o : Option ℕ) → find dig key (kids c) ≡ o → find dig key (kids c) ≡ none
       go on false e o z = on (λ v. u (rw (walk_goes pool n key unlike f s (x - n) b A e) v))
       go on true e none z = z
       go on true e (some v) z =

@@ -80,9 +80,9 @@ module _ (D N : ℕ) (d : D ≤ 256) where
     unfolding Good
     branch = (good_at D N m t H π (node x b s kids) p).1
 
-    pub header_at_lem : (w r : ℕ) → w ≤ h → Holds (base D N) m (dep π 0 t) r (sub π t)
+    pub header_at : (w r : ℕ) → w ≤ h → Holds (base D N) m (dep π 0 t) r (sub π t)
         → Holds (base D N) (upd m (node_word N (x - N)) (header_in D h (b - h) s')) w r (sub π t)
-    header_at_lem w r low g =
+    header_at w r low g =
         rw p.is
         (header_holds m (dep π 0 t) w r x b s kids h s' (rw p.is at g)
         (λ c o. omega (arith, count x, one_at x, H.once x, sub_mult π t x p.on, sum_has 16 (λ c. mult x (kids c)) c o)) low high branch agree)
@@ -94,7 +94,7 @@ module _ (D N : ℕ) (d : D ≤ 256) where
         let own-i : own N i ≡ x = own_slot N x i (node_slot D N m t H π x b s kids p).0 (omega arith) (omega arith) in
         held D N (upd m i v) t
         (subst (Holds (base D N) (upd m i v) 0 (upd m i v 1)) (plug_sub π t p.on)
-        (amended D N m t H π p.on i v (sub π t) (rw own-i (omega (arith, count x, one_at x))) (λ r g. header_at_lem (dep π 0 t) r low g)))
+        (amended D N m t H π p.on i v (sub π t) (rw own-i (omega (arith, count x, one_at x))) (λ r g. header_at (dep π 0 t) r low g)))
         H.good
 
     -- as a list of one store, of which a cut leaves all or nothing

@@ -27,7 +27,7 @@ use Rattle.layout.specs.Switches.{depths, NoneStale, OneStale, Puts}
 use Rattle.layout.proofs.Base.{ref_node, SeesNode, node_seen, none_seen, own_leaf, own_node, own_slot}
 use Rattle.layout.proofs.Held.{sub_holds, holds_at, good_at, node_slot}
 use Rattle.layout.proofs.Changes.{ref_owner}
-use Rattle.layout.proofs.Headers.{header_view, header_at_lem, header_kept}
+use Rattle.layout.proofs.Headers.{header_view, header_at, header_kept}
 use Rattle.layout.proofs.Stales.{depth_there, Apart, stores_straight, header_depth, header_others, node_straight}
 use Rattle.layout.proofs.Puts.{Fresh, Aside, fresh_kept, fresh_apart, leaf_fresh, leaf_made, puts}
 
@@ -230,7 +230,7 @@ module _ (D N : ℕ) (m : Mem) (t : Tree ℕ) (H : Held D N m t) (d : D ≤ 256)
       (λ m' H' τ o. header_kept D N d m' t H' π x b s kids p (f + 1) k₂ (omega arith) agree (omega arith) τ (rw length at o))
       (λ m' H'.
       rw length
-      (header_at_lem D N d m' t H' π x b s kids p (f + 1) k₂ (omega arith) agree (f + 1) (m' q) (omega arith) (sub_holds D N m' π 0 1 t on H'.holds)))
+      (header_at D N d m' t H' π x b s kids p (f + 1) k₂ (omega arith) agree (f + 1) (m' q) (omega arith) (sub_holds D N m' π 0 1 t on H'.holds)))
       (rw own_x (omega (arith, ap (mult x) is, one_at x)), tt)
       x ((λ y l h n e. n (omega arith)), tt)
       (λ m' g.

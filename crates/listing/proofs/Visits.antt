@@ -9,7 +9,7 @@ use borrow.Author.Tests.{eq-eqb, ne_eqb, eqb-true, leb-true, not-false}
 use lib.Dec.{eqb, leb, ltb}
 use Rattle.digits.specs.Choice.{pick}
 use Rattle.digits.specs.Loops.{upto, scan}
-use Rattle.pool.specs.Places.{key_at, value_at, header_at_lem, child_at}
+use Rattle.pool.specs.Places.{key_at, value_at, header_at, child_at}
 use Rattle.pool.specs.Refs.{ref_of}
 use Rattle.pool.specs.declared.Ref.{Ref}
 use Rattle.pool.specs.declared.Ref.TheVariants.{Empty, Leaf, Node, Bad}
@@ -90,7 +90,7 @@ module _ (pool : List ℕ) (n from : ℕ) where
   -- children are met deeper than their node
   node_same : (go go' : ℕ → ℕ → Visit → Visit) (w j : ℕ) (v : Visit) → ((d r : ℕ) (u : Visit) → w < d → go d r u ≡ go' d r u)
       → node_of go pool n w j v ≡ node_of go' pool n w j v
-  node_same go go' w j v e = at_head (head_of w (header_at_lem pool n j)) (between w (header_at_lem pool n j))
+  node_same go go' w j v e = at_head (head_of w (header_at pool n j)) (between w (header_at pool n j))
     where
       at_head : (h : Head) → Between w h → kids_of go pool n j h v ≡ kids_of go' pool n j h v
       at_head (Branch b) l = ap (pick (eqb (children_of pool n j) 0) (spoilt v)) (upto_same _ _ v (λ c u. e (b + 1) (child_at pool n j c) u (omega arith)) 16)
@@ -99,7 +99,7 @@ module _ (pool : List ℕ) (n from : ℕ) where
   -- no header is accepted where no digit is left
   node_end : (f w j : ℕ) (v : Visit) → 16 ≤ w → spoilt v ≡ node_from f w j v
   node_end zero w j v g = refl
-  node_end (suc f) w j v g = at_head (head_of w (header_at_lem pool n j)) (between w (header_at_lem pool n j))
+  node_end (suc f) w j v g = at_head (head_of w (header_at pool n j)) (between w (header_at pool n j))
     where
       at_head : (h : Head) → Between w h → spoilt v ≡ kids_of (visit_from f pool n from) pool n j h v
       at_head (Branch b) l = absurd (omega arith)
@@ -140,7 +140,7 @@ module _ (pool : List ℕ) (n from : ℕ) where
         q ∙ rw (z, e)
 
   -- ---- what a node's header and its first child tell
-  module _ (j w : ℕ) (v : Visit) {y : Head} {h : ℕ} (e : h ≡ header_at_lem pool n j) (k : y ≡ head_of w h) where
+  module _ (j w : ℕ) (v : Visit) {y : Head} {h : ℕ} (e : h ≡ header_at pool n j) (k : y ≡ head_of w h) where
     pub node_refused : y ≡ Wrong → node_of (visit_from 17 pool n from) pool n w j v ≡ spoilt v
     node_refused q = rw (← e, ← k, q)
 
@@ -198,4 +198,4 @@ module _ (pool : List ℕ) (n from : ℕ) where
 
     pub visit_keeps : (f w r : ℕ) (v : Visit) → P v → P (visit_from f pool n from w r v)
     visit_keeps zero w r v p = turn_keeps 0 w r v (λ j u q. damage u q) p
-    visit_keeps (suc f) w r v p = turn_keeps (suc f) w r v (λ j u q. kids_keep (visit_from f pool n from) (visit_keeps f) j (head_of w (header_at_lem pool n j)) u q) p
+    visit_keeps (suc f) w r v p = turn_keeps (suc f) w r v (λ j u q. kids_keep (visit_from f pool n from) (visit_keeps f) j (head_of w (header_at pool n j)) u q) p

@@ -4,7 +4,7 @@ use Rattle.std.specs.Prelude.{◌≡◌, Bool, false, List, ℕ, zero, suc, ◌+
 use Rattle.digits.specs.Choice.{pick}
 use Rattle.digits.specs.Loops.{upto}
 use Rattle.pool.specs.Sizes.{capacity_of}
-use Rattle.pool.specs.Places.{word_at, key_at, value_at, header_at_lem, child_at}
+use Rattle.pool.specs.Places.{word_at, key_at, value_at, header_at, child_at}
 use Rattle.pool.specs.Refs.{ref_of}
 use Rattle.pool.specs.declared.Size.{Size}
 use Rattle.pool.specs.declared.Size.TheVariants.{Holds, Wrong}
@@ -52,7 +52,7 @@ kids_of go pool n j (Branch b) v =
 kids_of go pool n j Unaccepted v = spoilt v
 
 abbrev pub node_of : (ℕ → ℕ → Visit → Visit) → List ℕ → ℕ → ℕ → ℕ → Visit → Visit
-node_of go pool n w j v = kids_of go pool n j (head_of w (header_at_lem pool n j)) v
+node_of go pool n w j v = kids_of go pool n j (head_of w (header_at pool n j)) v
 
 abbrev pub ref_visit : (ℕ → Visit → Visit) → List ℕ → ℕ → ℕ → Ref → Visit → Visit
 ref_visit node pool n from Empty v = v

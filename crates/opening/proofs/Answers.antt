@@ -13,7 +13,7 @@ use Rattle.digits.specs.Loops.{upto}
 use Rattle.tree.specs.Stores.{Store}
 use Rattle.tree.proofs.Stores.{Words}
 use Rattle.pool.specs.Sizes.{Sized, capacity_of, bytes_of}
-use Rattle.pool.specs.Places.{header_at_lem, node_word, node_ref}
+use Rattle.pool.specs.Places.{header_at, node_word, node_ref}
 use Rattle.pool.specs.declared.Size.{Size}
 use Rattle.pool.specs.declared.Size.TheVariants.{Holds, Wrong}
 use Rattle.pool.proofs.Sizes.{size_fits}
@@ -50,7 +50,7 @@ pub record Modest (pool : List ℕ) (d : Decided) : Type 0 where
 module _ (pool : List ℕ) where
   mend_inside : (n w j : ℕ) → node_word n j < length pool → Words (λ x. x < length pool) (mend_of pool n w j)
   unfolding Words
-  mend_inside n w j l = go (head_of w (header_at_lem pool n j))
+  mend_inside n w j l = go (head_of w (header_at pool n j))
     where
       low : (b : ℕ) (k : Lowest) → Words (λ x. x < length pool) (mend_with n w j b k)
       low b (Key k) = (l, tt)

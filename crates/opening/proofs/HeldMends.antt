@@ -15,7 +15,7 @@ use Rattle.digits.specs.Headers.{header_of, depth_of}
 use Rattle.digits.proofs.Digits.{digit_lt}
 use Rattle.digits.proofs.Headers.{depth_of_header}
 use Rattle.pool.specs.Sizes.{bytes_of}
-use Rattle.pool.specs.Places.{header_at_lem, node_word, node_ref}
+use Rattle.pool.specs.Places.{header_at, node_word, node_ref}
 use Rattle.tree.specs.Tree.{Tree, empty, leaf, node, upd, sum, one, mult, On, here, down, sub, dep, Stands, pre, Good, GoodAt}
 use Rattle.tree.specs.Near.{low}
 use Rattle.tree.specs.Shape
@@ -140,8 +140,8 @@ module _ (n : ℕ) (pos : 1 ≤ n) (cap : n ≤ 1024) (t : Tree ℕ) where
       ref_is : r ≡ node_ref j
       ref_is = (subst (Decoded n r) accepted.refers (decoded n r)).1 ∙ ap node_ref back
 
-      head_is : head_of w (header_at_lem pool n j) ≡ Branch S.b
-      head_is = ap (λ i. head_of w (header_at_lem pool n i)) (sym back) ∙ accepted.head
+      head_is : head_of w (header_at pool n j) ≡ Branch S.b
+      head_is = ap (λ i. head_of w (header_at pool n i)) (sym back) ∙ accepted.head
 
       pub bounds : (w ≤ S.b) × (S.b < 16)
       bounds = (accepted.w≤b, accepted.b<)
@@ -226,9 +226,9 @@ module _ (n : ℕ) (pos : 1 ≤ n) (cap : n ≤ 1024) (t : Tree ℕ) where
           outside x h e = let q : mult (n + j) (sub S.π t) < mult (n + j) t = rw e at h in omega (arith, counted (n + j), one_at (n + j), H.once (n + j))
 
       -- a header that is not stale is straight
-      pub fresh_depth : stale pool n M j ≡ false → depth_of (header_at_lem pool n j) ≡ w
+      pub fresh_depth : stale pool n M j ≡ false → depth_of (header_at pool n j) ≡ w
       fresh_depth e =
           let head : Headed pool n w r (n + j) S.b S.s = held_head pool n w r (n + j) S.b S.s S.kids holds in
-          let d : depth_of (header_at_lem pool n j) ≡ head.h = ap (λ i. depth_of (header_at_lem pool n i)) (sym back) ∙ head.shown.depth in
-          let f : ltb (depth_marked M n j) (depth_of (header_at_lem pool n j)) ≡ false = rw (ne_eqb (get_or M (n + j) 0) 0 (λ z. omega (arith, mark_is))) at e in
-          omega (arith, ltb-false (depth_marked M n j) (depth_of (header_at_lem pool n j)) f, depth_is, head.low)
+          let d : depth_of (header_at pool n j) ≡ head.h = ap (λ i. depth_of (header_at pool n i)) (sym back) ∙ head.shown.depth in
+          let f : ltb (depth_marked M n j) (depth_of (header_at pool n j)) ≡ false = rw (ne_eqb (get_or M (n + j) 0) 0 (λ z. omega (arith, mark_is))) at e in
+          omega (arith, ltb-false (depth_marked M n j) (depth_of (header_at pool n j)) f, depth_is, head.low)

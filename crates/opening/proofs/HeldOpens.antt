@@ -15,7 +15,7 @@ use lib.Seq.{get_or-set_same, get_or-set_other}
 use Rattle.digits.specs.Loops.{upto}
 use Rattle.digits.specs.Headers.{depth_of}
 use Rattle.pool.specs.Sizes.{size_of, capacity_of, bytes_of}
-use Rattle.pool.specs.Places.{word_at, header_at_lem, node_word}
+use Rattle.pool.specs.Places.{word_at, header_at, node_word}
 use Rattle.pool.specs.declared.Size.TheVariants.{Holds}
 use Rattle.tree.specs.Tree.{Tree, one, mult, leaves, dep}
 use Rattle.tree.specs.Stores.{Store}
@@ -111,21 +111,21 @@ module _ (n : ℕ) (pos : 1 ≤ n) (cap : n ≤ 1024) (t : Tree ℕ) where
         go (inr l) = rw (le-ltb (first_stale pool n marks) (n - 1) l) O
 
     -- a node whose header says its walk depth is not stale
-    straight_fresh : (j : ℕ) → j + 1 < n → ((S : NodeAt n pos cap t j) → depth_of (header_at_lem pool n j) ≡ dep S.π 0 t) → stale pool n marks j ≡ false
+    straight_fresh : (j : ℕ) → j + 1 < n → ((S : NodeAt n pos cap t j) → depth_of (header_at pool n j) ≡ dep S.π 0 t) → stale pool n marks j ≡ false
     straight_fresh j jn h = go (same? (get_or marks (n + j) 0) 0)
       where
         go : Same? (get_or marks (n + j) 0) 0 → stale pool n marks j ≡ false
         go (same e p) = rw p
         go (other e p) =
             let S = marked_stands n pos cap t pool P.size P.held j e in
-            rw p (le-ltb (depth_marked marks n j) (depth_of (header_at_lem pool n j)) (omega (arith, h S, depth_is n pos cap t pool P.size P.held j jn S)))
+            rw p (le-ltb (depth_marked marks n j) (depth_of (header_at pool n j)) (omega (arith, h S, depth_is n pos cap t pool P.size P.held j jn S)))
 
   -- ---- all of them, in turn
   module _ (p : List ℕ) (P : Pool p) where
     -- what is true once the stale headers among the first i nodes are mended
     pub record SoFar (i : ℕ) (v : Mended) : Type 0 where
       pub pool : Pool v.pool
-      pub straight : (j : ℕ) → j < i → j + 1 < n → (S : NodeAt n pos cap t j) → depth_of (header_at_lem v.pool n j) ≡ dep S.π 0 t
+      pub straight : (j : ℕ) → j < i → j + 1 < n → (S : NodeAt n pos cap t j) → depth_of (header_at v.pool n j) ≡ dep S.π 0 t
       pub kept : (y : ℕ) → ((j : ℕ) → j < i → y ≢ node_word n j) → word_at v.pool y ≡ word_at p y
       pub steps : open_steps v.headers p ≡ v.pool
       pub each : (k : ℕ) → k < v.headers → length (open_plan (open_steps k p)).stores ≡ 1
@@ -142,7 +142,7 @@ module _ (n : ℕ) (pos : 1 ≤ n) (cap : n ≤ 1024) (t : Tree ℕ) where
         few = omega (arith, ih.few);
       })
         where
-          up : (j : ℕ) → j + 1 < n → (S : NodeAt n pos cap t j) → (j ≡ i) ⊎ (j < i) → depth_of (header_at_lem v.pool n j) ≡ dep S.π 0 t
+          up : (j : ℕ) → j + 1 < n → (S : NodeAt n pos cap t j) → (j ≡ i) ⊎ (j < i) → depth_of (header_at v.pool n j) ≡ dep S.π 0 t
           up j jn S (inl z) = fresh_depth n pos cap t v.pool ih.pool.size ih.pool.held j jn S (ap (stale v.pool n marks) z ∙ e)
           up j jn S (inr l) = ih.straight j l jn S
 
@@ -187,7 +187,7 @@ module _ (n : ℕ) (pos : 1 ≤ n) (cap : n ≤ 1024) (t : Tree ℕ) where
           one_each k (inr l) = ih.each k l
 
           up : (j : ℕ) → j + 1 < n → (S : NodeAt n pos cap t j) → (j ≡ i) ⊎ (j < i)
-              → depth_of (header_at_lem (made (mend_of v.pool n (depth_marked marks n i) i) v.pool) n j) ≡ dep S.π 0 t
+              → depth_of (header_at (made (mend_of v.pool n (depth_marked marks n i) i) v.pool) n j) ≡ dep S.π 0 t
           up j jn S (inl z) =
               ap (λ (l : List ℕ). depth_of (word_at l (node_word n j))) set_is
               ∙ ap (λ (x : ℕ). depth_of (word_at (set v.pool (node_word n i) new) (node_word n x))) z

@@ -13,7 +13,7 @@ use lib.Seq.{get_or-set_same, get_or-set_other}
 use Rattle.digits.specs.Choice.{pick}
 use Rattle.digits.specs.Loops.{upto, tally}
 use Rattle.pool.specs.Sizes.{bytes_of}
-use Rattle.pool.specs.Places.{word_at, key_at, header_at_lem, child_at}
+use Rattle.pool.specs.Places.{word_at, key_at, header_at, child_at}
 use Rattle.pool.specs.Refs.{ref_of, Within}
 use Rattle.pool.specs.declared.Ref.{Ref}
 use Rattle.pool.specs.declared.Ref.TheVariants.{Empty, Leaf, Node, Bad}
@@ -78,7 +78,7 @@ module _ (pool : List ℕ) (n : ℕ) where
         kids = upto 16 (kid_of go pool n j b) (gathered (set v.marks (n + j) (w + 1)) (gather v.census 0 false))
 
         met : (t : Bool) → eqb (get_or v.marks (n + j) 0) 0 ≡ t
-            → Marking n v.marks (pick t (closed (header_at_lem pool n j) kids) (survey v.marks (census v.census.last false))).marks
+            → Marking n v.marks (pick t (closed (header_at pool n j) kids) (survey v.marks (census v.census.last false))).marks
         met true e =
             node j w l (omega arith) (eqb-true (get_or v.marks (n + j) 0) 0 e)
             (kids_marking j b (gathered (set v.marks (n + j) (w + 1)) (gather v.census 0 false)))
@@ -100,7 +100,7 @@ module _ (pool : List ℕ) (n : ℕ) where
   survey_marking zero w r v = ref_marking 0 w r v (λ j l. none)
   survey_marking (suc f) w r v =
       ref_marking (suc f) w r v
-      (λ j l. node_marking (survey_from f pool n) (survey_marking f) w j v l (head_of w (header_at_lem pool n j)) (between w (header_at_lem pool n j)))
+      (λ j l. node_marking (survey_from f pool n) (survey_marking f) w j v l (head_of w (header_at pool n j)) (between w (header_at pool n j)))
 
 -- ---- what a marking keeps and what it adds
 -- the marks stay as many

@@ -17,7 +17,7 @@ use Rattle.digits.specs.Headers.{header_of}
 use Rattle.tree.specs.Stores.{Store}
 use Rattle.tree.proofs.Stores.{Words}
 use Rattle.pool.specs.Sizes.{capacity_of, bytes_of}
-use Rattle.pool.specs.Places.{header_at_lem, node_word, node_ref}
+use Rattle.pool.specs.Places.{header_at, node_word, node_ref}
 use Rattle.pool.specs.declared.Size.{Size}
 use Rattle.pool.specs.declared.Size.TheVariants.{Holds, Wrong}
 use Rattle.walk.specs.Walks.{head_of, lowest_of}
@@ -77,7 +77,7 @@ module _ (pool : List ℕ) (n : ℕ) (marks : List ℕ) (j : ℕ) where
   unmet_fresh e = rw (eq-eqb (get_or marks (n + j) 0) 0 e)
 
 -- ---- the header that mends a node, by what `header` and `accept` told
-module _ (pool : List ℕ) (n w j : ℕ) {word : ℕ} {h : Head} (there : word ≡ header_at_lem pool n j) (is : h ≡ head_of w word) where
+module _ (pool : List ℕ) (n w j : ℕ) {word : ℕ} {h : Head} (there : word ≡ header_at pool n j) (is : h ≡ head_of w word) where
   pub mend_wrong : h ≡ Unaccepted → [] ≡ mend_of pool n w j
   mend_wrong e = rw (← there, ← is, e)
 
@@ -98,7 +98,7 @@ module _ (pool : List ℕ) (n : ℕ) (marks : List ℕ) where
 
 -- ---- one node mended
 pub at_most_one_store : (pool : List ℕ) (n w j : ℕ) → length (mend_of pool n w j) ≤ 1
-at_most_one_store pool n w j = go (head_of w (header_at_lem pool n j))
+at_most_one_store pool n w j = go (head_of w (header_at pool n j))
   where
     low : (b : ℕ) (l : Lowest) → length (mend_with n w j b l) ≤ 1
     low b (Key k) = omega arith

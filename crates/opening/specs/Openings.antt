@@ -6,7 +6,7 @@ use Rattle.digits.specs.Loops.{upto, scan, tally}
 use Rattle.digits.specs.Headers.{header_of, depth_of}
 use Rattle.tree.specs.Stores.{Store}
 use Rattle.pool.specs.Sizes.{capacity_of, bytes_of}
-use Rattle.pool.specs.Places.{header_at_lem, node_word, node_ref}
+use Rattle.pool.specs.Places.{header_at, node_word, node_ref}
 use Rattle.pool.specs.declared.Size.{Size}
 use Rattle.pool.specs.declared.Size.TheVariants.{Holds, Wrong}
 use Rattle.walk.specs.Walks.{head_of, lowest_of}
@@ -28,7 +28,7 @@ depth_marked marks n j = get_or marks (n + j) 0 - 1
 
 -- "A node with h > w is stale": node j was met at the walk depth that its mark says
 abbrev pub stale : List ℕ → ℕ → List ℕ → ℕ → Bool
-stale pool n marks j = pick (eqb (get_or marks (n + j) 0) 0) false (ltb (depth_marked marks n j) (depth_of (header_at_lem pool n j)))
+stale pool n marks j = pick (eqb (get_or marks (n + j) 0) 0) false (ltb (depth_marked marks n j) (depth_of (header_at pool n j)))
 
 -- "rewrites each stale header (depth w, same branch place, digits from w of the keys below) as one store each": node j, which branches at b
 abbrev pub mend_with : ℕ → ℕ → ℕ → ℕ → Lowest → List Store
@@ -41,7 +41,7 @@ mend_at pool n w j (Branch b) = mend_with n w j b (lowest_of pool n w 0 (node_re
 mend_at pool n w j Unaccepted = []
 
 abbrev pub mend_of : List ℕ → ℕ → ℕ → ℕ → List Store
-mend_of pool n w j = mend_at pool n w j (head_of w (header_at_lem pool n j))
+mend_of pool n w j = mend_at pool n w j (head_of w (header_at pool n j))
 
 -- the stores of the code's answer for node j
 abbrev pub fresh_stores : ℕ → ℕ → Fresh → List Store

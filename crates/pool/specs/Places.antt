@@ -23,8 +23,8 @@ key_at pool i = word_at pool (leaf_word i)
 abbrev pub value_at : List ℕ → ℕ → ℕ
 value_at pool i = word_at pool (leaf_word i + 1)
 
-abbrev pub header_at_lem : List ℕ → ℕ → ℕ → ℕ
-header_at_lem pool n j = word_at pool (node_word n j)
+abbrev pub header_at : List ℕ → ℕ → ℕ → ℕ
+header_at pool n j = word_at pool (node_word n j)
 
 abbrev pub child_at : List ℕ → ℕ → ℕ → ℕ → ℕ
 child_at pool n j c = word_at pool (child_word n j c)

@@ -3,7 +3,7 @@
 
 ghost use Rattle.std.specs.Prelude.{◌≡◌, ◌+◌, ◌<◌, ◌≤◌};
 ghost use Rattle.pool.specs.Sizes.{size_of, capacity_of, Sized, Measured};
-ghost use Rattle.pool.specs.Places.{leaf_word, node_word, key_at, value_at, header_at_lem, child_at, leaf_ref, node_ref};
+ghost use Rattle.pool.specs.Places.{leaf_word, node_word, key_at, value_at, header_at, child_at, leaf_ref, node_ref};
 ghost use Rattle.pool.specs.Refs.{ref_of, Within};
 
 use digits::Header;
@@ -125,7 +125,7 @@ pub fn leaf_value(pool: &[u64], n: usize, i: usize) -> u64
 // The header of node j.
 pub fn header(pool: &[u64], n: usize, j: usize) -> u64
     requires { Sized pool.now n × (j + 1 < n) }
-    ensures { result ≡ header_at_lem pool.now n j }
+    ensures { result ≡ header_at pool.now n j }
 {
     pool[2 + 2 * n + (Header::CHILDREN + 1) * j]
 }

@@ -17,7 +17,7 @@ use Rattle.digits.specs.Headers.{header_of}
 use Rattle.tree.specs.Stores.{block, tab}
 use Rattle.tree.proofs.Stores.{Words, words_block}
 use Rattle.pool.specs.Sizes.{capacity_of, bytes_of, Sized, Measured}
-use Rattle.pool.specs.Places.{word_at, key_at, header_at_lem, node_word, child_word}
+use Rattle.pool.specs.Places.{word_at, key_at, header_at, node_word, child_word}
 use Rattle.pool.specs.Refs.{ref_of, Within}
 use Rattle.pool.specs.declared.Size.{Size}
 use Rattle.pool.specs.declared.Size.TheVariants.{Holds, Wrong}
@@ -273,7 +273,7 @@ module _ {pool : List ℕ} {n : ℕ} (z : Sized pool n) where
           named = (tt, (omega arith, (omega (arith, p.accepted.j<), tt)));
           answers = plans refl (rw to);
         }
-    merge_fits at r (Node j) h to = go (head_of s.depth (header_at_lem pool n j))
+    merge_fits at r (Node j) h to = go (head_of s.depth (header_at pool n j))
       where
         go : (d : Head) → DeleteFits pool n (bytes_of n) (lift_at pool n s (FreesLeaf i) at r j d)
         go (Branch b) = lift_fits r j b (lowest_of pool n s.depth at r) h to

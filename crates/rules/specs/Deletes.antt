@@ -3,7 +3,7 @@
 use Rattle.std.specs.Prelude.{◌≡◌, List, ℕ, ◌+◌, eqb, ltb}
 use Rattle.digits.specs.Choice.{pick}
 use Rattle.pool.specs.Sizes.{capacity_of}
-use Rattle.pool.specs.Places.{key_at, header_at_lem, child_at, child_word}
+use Rattle.pool.specs.Places.{key_at, header_at, child_at, child_word}
 use Rattle.pool.specs.Refs.{ref_of}
 use Rattle.pool.specs.declared.Size.{Size}
 use Rattle.pool.specs.declared.Size.TheVariants.{Holds, Wrong}
@@ -50,7 +50,7 @@ lift_at pool n s o at r j (Branch b) = lift_of n s o r j b (lowest_of pool n s.d
 lift_at pool n s o at r j Unaccepted = refused 2
 
 abbrev pub lift_in : List ℕ → ℕ → Spot → Effect → ℕ → ℕ → ℕ → Decided
-lift_in pool n s o at r j = lift_at pool n s o at r j (head_of s.depth (header_at_lem pool n j))
+lift_in pool n s o at r j = lift_at pool n s o at r j (head_of s.depth (header_at pool n j))
 
 -- "In 3 the other child is read under the walk's rules, at depth b+1 of P." It is r, in the word `at`.
 abbrev pub merge_of : List ℕ → ℕ → Spot → Effect → ℕ → ℕ → Ref → Decided

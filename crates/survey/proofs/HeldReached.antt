@@ -7,7 +7,7 @@ use Prim.Native.Nat.{ℕ, ◌+◌, ◌-◌, ◌%◌, ◌^◌, ◌≤◌, ◌<◌
 use native.Mathlib.Omega.{arith}
 use lib.Dec.{eqb}
 use Rattle.digits.specs.Headers.{length_of, stored_in}
-use Rattle.pool.specs.Places.{word_at, key_at, value_at, header_at_lem, child_at, child_word}
+use Rattle.pool.specs.Places.{word_at, key_at, value_at, header_at, child_at, child_word}
 use Rattle.pool.specs.Refs.{ref_of}
 use Rattle.pool.specs.declared.Ref.{Ref}
 use Rattle.pool.specs.declared.Ref.TheVariants.{Empty, Leaf, Node, Bad}
@@ -94,7 +94,7 @@ module _ (pool : List ℕ) (n : ℕ) where
     pub below : (c : ℕ) → c < 16 → Holds (base 16 n) (mem pool) (branch pool n j + 1) (child_at pool n j c) (kids c)
     pub deep : w ≤ depth pool n j
     pub high : branch pool n j < 16
-    pub stored : header_at_lem pool n j % 2 ^ 48 ≡ stored_in 16 12 (depth pool n j) (length_of (header_at_lem pool n j)) s
+    pub stored : header_at pool n j % 2 ^ 48 ≡ stored_in 16 12 (depth pool n j) (length_of (header_at pool n j)) s
 
   -- what the reference means
   abbrev pub Means : ℕ → Tree ℕ → Ref → Type 0
@@ -108,7 +108,7 @@ module _ (pool : List ℕ) (n : ℕ) where
       let H : Headed pool n w r x b s = held_head pool n w r x b s kids h in
       let back : n + (x - n) ≡ x = omega (arith, H.past) in
       let at_b : branch pool n (x - n) ≡ b = H.shown.branch in
-      let len : b - H.h ≡ length_of (header_at_lem pool n (x - n)) = omega (arith, H.shown.depth) in
+      let len : b - H.h ≡ length_of (header_at pool n (x - n)) = omega (arith, H.shown.depth) in
       record {
         s = s;
         kids = kids;

@@ -16,7 +16,7 @@ use Rattle.digits.specs.Headers.{header_in, header_of, depth_of, length_of, stor
 use Rattle.digits.proofs.Digits.{first_diff_differ}
 use Rattle.digits.proofs.Headers.{header_cong}
 use Rattle.pool.specs.Sizes.{bytes_of}
-use Rattle.pool.specs.Places.{word_at, header_at_lem, child_at}
+use Rattle.pool.specs.Places.{word_at, header_at, child_at}
 use Rattle.pool.specs.Refs.{ref_of}
 use Rattle.pool.specs.declared.Ref.{Ref}
 use Rattle.tree.specs.Tree.{Tree, empty, leaf, node, upd, sum, one, mult, Filled, Agree, Good}
@@ -187,11 +187,11 @@ module _ (pool : List ℕ) (n : ℕ) where
     kids_fit (suc i) l = kid_step i (omega arith) (kids_fit i (omega arith))
 
     -- the node's header is its keys', and the survey goes on
-    pub closed_fits : Good dig 16 w q (node x b s kids) → Fits w q (node x b s kids) v (closed (header_at_lem pool n (x - n)) (G 16))
+    pub closed_fits : Good dig 16 w q (node x b s kids) → Fits w q (node x b s kids) v (closed (header_at pool n (x - n)) (G 16))
     unfolding Good marks_of head_judged
     closed_fits g =
         let K : KidsFit 16 (G 16) = kids_fit 16 (omega arith) in
-        let word : ℕ = header_at_lem pool n (x - n) in
+        let word : ℕ = header_at pool n (x - n) in
         let first : ℕ = (G 16).sum.first in
         let begun : (G 16).sum.some ≡ true = K.begun g.4.c g.4.c< g.4.at_c in
         let head : Headed pool n w r x b s = held_head pool n w r x b s kids holds in

@@ -8,7 +8,7 @@ use borrow.Author.Tests.{lt-ltb}
 use Rattle.digits.specs.Headers.{depth_of, length_of, stored_in}
 use Rattle.digits.proofs.Headers.{stored_cong}
 use Rattle.pool.specs.Sizes.{capacity_of}
-use Rattle.pool.specs.Places.{word_at, key_at, value_at, header_at_lem, child_at, child_word}
+use Rattle.pool.specs.Places.{word_at, key_at, value_at, header_at, child_at, child_word}
 use Rattle.pool.specs.Refs.{ref_of}
 use Rattle.pool.specs.declared.Size.TheVariants.{Holds as Capacity}
 use Rattle.pool.specs.declared.Ref.{Ref}
@@ -60,7 +60,7 @@ module _ (pool : List ℕ) (n : ℕ) where
             ∙ upd_at (dig N.s) b c;
         stored = λ k B.
             N.stored
-            ∙ stored_cong 16 12 (depth pool n j) (length_of (header_at_lem pool n j)) N.s k (λ i l. sym (agrees k B (depth pool n j + i) (omega arith)));
+            ∙ stored_cong 16 12 (depth pool n j) (length_of (header_at pool n j)) N.s k (λ i l. sym (agrees k B (depth pool n j + i) (omega arith)));
       }
 
   module _ (t : Tree ℕ) (size : capacity_of pool ≡ Capacity n) (H : Held 16 n (mem pool) t) where
@@ -83,7 +83,7 @@ module _ (pool : List ℕ) (n : ℕ) where
     }
 
     -- and straight where each node's depth is the walk depth of its place
-    pub straight_if : ((π : List ℕ) (x b s : ℕ) (kids : ℕ → Tree ℕ) → Stands π (node x b s kids) t → depth_of (header_at_lem pool n (x - n)) ≡ dep π 0 t)
+    pub straight_if : ((π : List ℕ) (x b s : ℕ) (kids : ℕ → Tree ℕ) → Stands π (node x b s kids) t → depth_of (header_at pool n (x - n)) ≡ dep π 0 t)
         → Straight pool
     unfolding held_is_sound
     straight_if d = record {
@@ -93,17 +93,17 @@ module _ (pool : List ℕ) (n : ℕ) where
           let N = place_means pool n t H P S.node in
           let back : j ≡ n + j - n = omega arith in
           let e = d P.π (n + j) (branch pool n j) N.s N.kids (record { on = P.on; is = N.is }) in
-          omega (arith, ap (λ (j : ℕ). depth_of (header_at_lem pool n j)) back, P.met, S.above);
+          omega (arith, ap (λ (j : ℕ). depth_of (header_at pool n j)) back, P.met, S.above);
     }
 
   -- a sound node's header is shown with the stored digits of a key below
   node_shown : (r j k : ℕ) → ref_of n r ≡ Node j → branch pool n j < 16
-      → header_at_lem pool n j % 2 ^ 48 ≡ stored_in 16 12 (depth pool n j) (length_of (header_at_lem pool n j)) k
+      → header_at pool n j % 2 ^ 48 ≡ stored_in 16 12 (depth pool n j) (length_of (header_at pool n j)) k
       → (base 16 n).view (mem pool) r ≡ node_there (n + j) (depth pool n j) (branch pool n j) ((base 16 n).stored (depth pool n j) (branch pool n j) k)
   unfolding base ref_view head_view
   node_shown r j k e b< stored =
-      let len : branch pool n j - depth pool n j ≡ length_of (header_at_lem pool n j) = omega arith in
-      rw (e, lt-ltb (length_of (header_at_lem pool n j)) 16 (omega arith), lt-ltb (branch pool n j) 16 b<)
+      let len : branch pool n j - depth pool n j ≡ length_of (header_at pool n j) = omega arith in
+      rw (e, lt-ltb (length_of (header_at pool n j)) 16 (omega arith), lt-ltb (branch pool n j) 16 b<)
       (ap (node_there (n + j) (depth pool n j) (branch pool n j)) (stored ∙ ap (λ (l : ℕ). stored_in 16 12 (depth pool n j) l k) (sym len)))
 
 -- ---- a sound pool holds a tree

@@ -16,7 +16,7 @@ use Rattle.digits.specs.Headers.{header_of, depth_of, length_of, stored_in}
 use Rattle.digits.proofs.Digits.{first_diff_agree}
 use Rattle.digits.proofs.Headers.{digits_of_header}
 use Rattle.pool.specs.Sizes.{bytes_of}
-use Rattle.pool.specs.Places.{word_at, key_at, value_at, header_at_lem, child_at}
+use Rattle.pool.specs.Places.{word_at, key_at, value_at, header_at, child_at}
 use Rattle.pool.specs.Refs.{ref_of, Within}
 use Rattle.pool.specs.declared.Ref.{Ref}
 use Rattle.pool.specs.declared.Ref.TheVariants.{Empty, Leaf, Node, Bad}
@@ -268,9 +268,9 @@ module _ (pool : List ℕ) (n : ℕ) where
   -- ---- a node
   module _ (go : ℕ → ℕ → Survey → Survey) (was : (w r : ℕ) (v : Survey) → (go w r v).census.sound ≡ true → v.census.sound ≡ true)
       (sees : (w r : ℕ) (v : Survey) → (go w r v).census.sound ≡ true → Seen w r (go w r v).census.last) (w r j b : ℕ) (ref : ref_of n r ≡ Node j)
-      (head : head_of w (header_at_lem pool n j) ≡ Branch b) (v : Survey) where
+      (head : head_of w (header_at pool n j) ≡ Branch b) (v : Survey) where
     abbrev word : ℕ
-    word = header_at_lem pool n j
+    word = header_at pool n j
 
     abbrev all : Gathered
     all = kids_of go pool n j b v
@@ -317,7 +317,7 @@ module _ (pool : List ℕ) (n : ℕ) where
           low = omega arith;
           high = omega arith;
           head =
-              ap (λ (i : ℕ). head_view 16 (n + j) (header_at_lem pool n i)) back
+              ap (λ (i : ℕ). head_view 16 (n + j) (header_at pool n i)) back
               ∙ rw (lt-ltb (length_of word) 16 says.short, lt-ltb (depth_of word + length_of word) 16 (omega (arith, says.branch, says.high)))
               (ap (λ (i : ℕ). node_there (n + j) (depth_of word) i (word % 2 ^ 48)) says.branch ∙ ap (node_there (n + j) (depth_of word) b) low);
         }
@@ -366,7 +366,7 @@ module _ (pool : List ℕ) (n : ℕ) where
   -- what a survey does with a node
   abbrev pub meeting : ℕ → ℕ → ℕ → Survey → Survey
   meeting zero w j = spoilt
-  meeting (suc f) w j = node_met (survey_from f pool n) pool n w j (head_of w (header_at_lem pool n j))
+  meeting (suc f) w j = node_met (survey_from f pool n) pool n w j (head_of w (header_at pool n j))
 
   survey_is : (f w r : ℕ) (v : Survey) → survey_from f pool n w r v ≡ pick v.census.sound (ref_met (meeting f w) pool n (ref_of n r) v) v
   unfolding survey_from
@@ -412,7 +412,7 @@ module _ (pool : List ℕ) (n : ℕ) where
 
   node_met_lem : (go : ℕ → ℕ → Survey → Survey) → ((w r : ℕ) (v : Survey) → (go w r v).census.sound ≡ true → v.census.sound ≡ true)
       → ((w r : ℕ) (v : Survey) → (go w r v).census.sound ≡ true → Seen w r (go w r v).census.last) → (w r j : ℕ) (v : Survey) → ref_of n r ≡ Node j
-      → (x : Judged) → head_of w (header_at_lem pool n j) ≡ x → (node_met go pool n w j x v).census.sound ≡ true → Seen w r (node_met go pool n w j x v).census.last
+      → (x : Judged) → head_of w (header_at pool n j) ≡ x → (node_met go pool n w j x v).census.sound ≡ true → Seen w r (node_met go pool n w j x v).census.last
   node_met_lem go was sees w r j v ref Wrong e h = unsound_never h
   node_met_lem go was sees w r j v ref (Branch b) e h = at_count (less? (children_of pool n j) 2) (same? (get_or v.marks (n + j) 0) 0)
     where
@@ -437,7 +437,7 @@ module _ (pool : List ℕ) (n : ℕ) where
   pub survey_sees : (f w r : ℕ) (v : Survey) → (survey_from f pool n w r v).census.sound ≡ true → Seen w r (survey_from f pool n w r v).census.last
   survey_sees zero w r v h = met zero w r v (λ j e z. unsound_never z) h
   survey_sees (suc f) w r v h =
-      met (suc f) w r v (λ j e z. node_met_lem (survey_from f pool n) (survey_was f) (survey_sees f) w r j v e (head_of w (header_at_lem pool n j)) refl z) h
+      met (suc f) w r v (λ j e z. node_met_lem (survey_from f pool n) (survey_was f) (survey_sees f) w r j v e (head_of w (header_at pool n j)) refl z) h
 
   -- a pool whose survey is sound holds a tree
   pub sound_held : (survey_of pool n).census.sound ≡ true → (t : Tree ℕ) × Held 16 n (mem pool) t

@@ -5,7 +5,7 @@ use mathlib.Core.List.{List}
 use Prim.Native.Nat.{ℕ, ◌+◌, ◌-◌, ◌≤◌, ◌<◌}
 use native.Mathlib.Omega.{arith}
 use Rattle.digits.specs.Headers.{depth_of}
-use Rattle.pool.specs.Places.{word_at, header_at_lem, child_word}
+use Rattle.pool.specs.Places.{word_at, header_at, child_word}
 use Rattle.tree.specs.Tree.{Tree, empty, leaf, node}
 use Rattle.tree.specs.Shape.{Holds}
 use Rattle.tree.specs.Straight.{StraightBut}
@@ -24,7 +24,7 @@ module _ (pool : List ℕ) (n : ℕ) where
   depth_is : (j : ℕ) → depths n (mem pool) (n + j) ≡ depth pool n j
   depth_is j =
       let back : n + j - n ≡ j = omega arith in
-      depth_there n (mem pool) (n + j) (omega arith) ∙ ap (λ (i : ℕ). depth_of (header_at_lem pool n i)) back
+      depth_there n (mem pool) (n + j) (omega arith) ∙ ap (λ (i : ℕ). depth_of (header_at pool n i)) back
 
   -- ---- where the tree is straight no node is stale
   module _ (t : Tree ℕ) (H : Held 16 n (mem pool) t) where

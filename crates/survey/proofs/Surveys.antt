@@ -8,7 +8,7 @@ use native.Mathlib.Omega.{arith}
 use lib.Dec.{eqb, ltb}
 use lib.ListN.{get_or}
 use Rattle.digits.specs.Choice.{pick}
-use Rattle.pool.specs.Places.{header_at_lem, child_at}
+use Rattle.pool.specs.Places.{header_at, child_at}
 use Rattle.pool.specs.Refs.{ref_of}
 use Rattle.pool.specs.declared.Ref.{Ref}
 use Rattle.pool.specs.declared.Ref.TheVariants.{Empty, Leaf, Node, Bad}
@@ -23,7 +23,7 @@ module _ (pool : List ℕ) (n : ℕ) where
   -- a node that is met with so many nodes left below the reference to it
   abbrev pub node_from : ℕ → ℕ → ℕ → Survey → Survey
   node_from zero w j = spoilt
-  node_from (suc f) w j = node_met (survey_from f pool n) pool n w j (head_of w (header_at_lem pool n j))
+  node_from (suc f) w j = node_met (survey_from f pool n) pool n w j (head_of w (header_at pool n j))
 
   pub survey_turn : (f w r : ℕ) (v : Survey) → survey_from f pool n w r v ≡ pick v.census.sound (ref_met (node_from f w) pool n (ref_of n r) v) v
   unfolding survey_from
@@ -56,7 +56,7 @@ module _ (pool : List ℕ) (n : ℕ) where
       → (h : Head) → Between w h → node_met go pool n w j h v ≡ node_met go' pool n w j h v
   kids_same go go' w j v e (Branch b) l =
       ap (λ (g : Survey). pick (ltb (children_of pool n j) 2) (spoilt v) (pick (eqb (get_or v.marks (n + j) 0) 0) g (spoilt v)))
-      (ap (closed (header_at_lem pool n j))
+      (ap (closed (header_at pool n j))
       (upto_same (kid_of go pool n j b) (kid_of go' pool n j b) _ (λ c g. rw (e (b + 1) (child_at pool n j c) (survey g.marks g.sum.census) (omega arith))) 16))
   kids_same go go' w j v e Wrong l = refl
 
@@ -67,7 +67,7 @@ module _ (pool : List ℕ) (n : ℕ) where
 
   node_end : (f w j : ℕ) (v : Survey) → 16 ≤ w → spoilt v ≡ node_from f w j v
   node_end zero w j v g = refl
-  node_end (suc f) w j v g = none_left (survey_from f pool n) w j v g (head_of w (header_at_lem pool n j)) (between w (header_at_lem pool n j))
+  node_end (suc f) w j v g = none_left (survey_from f pool n) w j v g (head_of w (header_at pool n j)) (between w (header_at pool n j))
 
   -- a bound that leaves one node for each digit that is left is not seen
   pub survey_bound_unseen : (f g w r : ℕ) (v : Survey) → 16 ≤ f + w → 16 ≤ g + w → survey_from f pool n w r v ≡ survey_from g pool n w r v
@@ -76,13 +76,13 @@ module _ (pool : List ℕ) (n : ℕ) where
   survey_bound_unseen (suc f) (suc g) w r v a b =
       nodes_same (suc f) (suc g) w w r v (λ j e.
       kids_same (survey_from f pool n) (survey_from g pool n) w j v (λ d x u l. survey_bound_unseen f g d x u (omega arith) (omega arith))
-      (head_of w (header_at_lem pool n j))
-      (between w (header_at_lem pool n j)))
+      (head_of w (header_at pool n j))
+      (between w (header_at pool n j)))
 
   -- so a node's children are surveyed under the bound of the node
-  pub node_bound_unseen : (f w j : ℕ) (v : Survey) → 16 ≤ f → node_from f w j v ≡ node_met (survey_from f pool n) pool n w j (head_of w (header_at_lem pool n j)) v
+  pub node_bound_unseen : (f w j : ℕ) (v : Survey) → 16 ≤ f → node_from f w j v ≡ node_met (survey_from f pool n) pool n w j (head_of w (header_at pool n j)) v
   node_bound_unseen zero w j v l = absurd (omega arith)
   node_bound_unseen (suc f) w j v l =
       kids_same (survey_from f pool n) (survey_from (suc f) pool n) w j v (λ d x u g. survey_bound_unseen f (suc f) d x u (omega arith) (omega arith))
-      (head_of w (header_at_lem pool n j))
-      (between w (header_at_lem pool n j))
+      (head_of w (header_at pool n j))
+      (between w (header_at pool n j))

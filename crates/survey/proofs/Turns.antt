@@ -13,7 +13,7 @@ use Rattle.digits.specs.Loops.{upto, tally}
 use Rattle.digits.specs.Digits.{digit_of, first_diff}
 use Rattle.digits.specs.Headers.{header_of, depth_of, length_of}
 use Rattle.pool.specs.Sizes.{bytes_of}
-use Rattle.pool.specs.Places.{word_at, key_at, header_at_lem, child_at}
+use Rattle.pool.specs.Places.{word_at, key_at, header_at, child_at}
 use Rattle.pool.specs.Refs.{ref_of}
 use Rattle.pool.specs.declared.Ref.{Ref}
 use Rattle.pool.specs.declared.Ref.TheVariants.{Empty, Leaf, Node, Bad}
@@ -210,9 +210,9 @@ header_judged word first last {h} e = rw (← e) (go (eqb h word))
     go false = refl
 
 -- ---- a node, by what `header` and `accept` told
-module _ (pool : List ℕ) (n w j : ℕ) (m : List ℕ) {word : ℕ} {h : Head} (there : word ≡ header_at_lem pool n j) (is : h ≡ head_of w word) where
+module _ (pool : List ℕ) (n w j : ℕ) (m : List ℕ) {word : ℕ} {h : Head} (there : word ≡ header_at pool n j) (is : h ≡ head_of w word) where
   abbrev node : Survey → Survey
-  node = node_met (survey_from 17 pool n) pool n w j (head_of w (header_at_lem pool n j))
+  node = node_met (survey_from 17 pool n) pool n w j (head_of w (header_at pool n j))
 
   pub node_wrong : (s : Census) → h ≡ Wrong → Over s → Gives node m (survey m s)
   node_wrong s e p = gives_over node m m s p (λ k. rw (← there, ← is, e))
@@ -234,7 +234,7 @@ module _ (pool : List ℕ) (n w j : ℕ) (m : List ℕ) {word : ℕ} {h : Head} 
       pub node_over : (m' : List ℕ) (s : Census) → ((k : ℕ) → Over (kids pool n j b own k 16).sum.census) → Over s → Gives node m (survey m' s)
       node_over m' s q p =
           gives_over node m m' s p (λ k. rw (← there, ← is, e, eq-eqb (get_or m (n + j) 0) 0 first)
-          (pick_both (λ (v : Survey). Over v.census) (ltb (children_of pool n j) 2) refl (header_over (header_at_lem pool n j) _ (q k))))
+          (pick_both (λ (v : Survey). Over v.census) (ltb (children_of pool n j) 2) refl (header_over (header_at pool n j) _ (q k))))
 
       pub node_judged : {m' : List ℕ} {g : Gather} {s : Census} {children : ℕ} → Joined pool n j b own 16 m' g children → 2 ≤ children
           → s ≡ head_judged word (gather (census g.census.last true) g.first true) → Gives node m (survey m' s)
@@ -263,7 +263,7 @@ module _ (pool : List ℕ) (n w r : ℕ) (m : List ℕ) {x : Ref} (is : x ≡ re
   pub ref_leaf : {i key : ℕ} {v : Survey} → x ≡ Leaf i → key ≡ key_at pool i → Gives (leaf_met i key) m v → Gives (survey_from 17 pool n w r) m v
   ref_leaf e q g k = rw (survey_on pool n 17 w r (survey m (census k true)) refl is e, ← q) (g k)
 
-  pub ref_node : {j : ℕ} {v : Survey} → x ≡ Node j → Gives (node_met (survey_from 17 pool n) pool n w j (head_of w (header_at_lem pool n j))) m v
+  pub ref_node : {j : ℕ} {v : Survey} → x ≡ Node j → Gives (node_met (survey_from 17 pool n) pool n w j (head_of w (header_at pool n j))) m v
       → Gives (survey_from 17 pool n w r) m v
   ref_node {j} e g k =
       rw (survey_on pool n 17 w r (survey m (census k true)) refl is e, node_bound_unseen pool n 17 w j (survey m (census k true)) (omega arith))

@@ -5,7 +5,7 @@ use Rattle.std.proofs.Math.Option.{Option, none, some}
 use Rattle.digits.specs.Digits.{digit_of}
 use Rattle.digits.specs.Headers.{depth_of, length_of, stored_in}
 use Rattle.pool.specs.Sizes.{capacity_of}
-use Rattle.pool.specs.Places.{word_at, key_at, header_at_lem, child_word}
+use Rattle.pool.specs.Places.{word_at, key_at, header_at, child_word}
 use Rattle.pool.specs.Refs.{ref_of}
 use Rattle.pool.specs.declared.Size.TheVariants.{Holds}
 use Rattle.pool.specs.declared.Ref.{Ref}
@@ -26,10 +26,10 @@ module _ (pool : List ℕ) (n : ℕ) where
 
   -- "The branch place b is depth + length"
   abbrev pub depth : ℕ → ℕ
-  depth j = depth_of (header_at_lem pool n j)
+  depth j = depth_of (header_at pool n j)
 
   abbrev pub branch : ℕ → ℕ
-  branch j = depth_of (header_at_lem pool n j) + length_of (header_at_lem pool n j)
+  branch j = depth_of (header_at pool n j) + length_of (header_at pool n j)
 
   -- everything reached from the root: the reference at a word, met at a walk depth. "the root has w = 0, a node's children w = b+1"
   pub data Reached : ℕ → ℕ → Type 0 where
@@ -53,7 +53,7 @@ module _ (pool : List ℕ) (n : ℕ) where
     -- "a key below child c has c as digit b"
     pub turn : (c k : ℕ) → c < 16 → Below (child_word n j c) k → digit_of k (branch j) ≡ c
     -- "stored digits are the keys' digits from h on, for the smaller of length and twelve, the rest zero"
-    pub stored : (k : ℕ) → Below i k → header_at_lem pool n j % 2 ^ 48 ≡ stored_in 16 12 (depth j) (length_of (header_at_lem pool n j)) k
+    pub stored : (k : ℕ) → Below i k → header_at pool n j % 2 ^ 48 ≡ stored_in 16 12 (depth j) (length_of (header_at pool n j)) k
 
 -- "A pool is sound if its length and word 0 agree and, for everything reached from the root: .."
 pub record Sound (pool : List ℕ) : Type 0 where

@@ -6,7 +6,7 @@ use Rattle.digits.specs.Loops.{upto}
 use Rattle.digits.specs.Digits.{digit_of, first_diff}
 use Rattle.digits.specs.Headers.{header_of, depth_of, length_of}
 use Rattle.pool.specs.Sizes.{bytes_of}
-use Rattle.pool.specs.Places.{word_at, key_at, header_at_lem, child_at}
+use Rattle.pool.specs.Places.{word_at, key_at, header_at, child_at}
 use Rattle.pool.specs.Refs.{ref_of}
 use Rattle.pool.specs.declared.Ref.{Ref}
 use Rattle.pool.specs.declared.Ref.TheVariants.{Empty, Leaf, Node, Bad}
@@ -90,7 +90,7 @@ abbrev pub node_met : (ℕ → ℕ → Survey → Survey) → List ℕ → ℕ �
 node_met go pool n w j (Branch b) v =
     pick (ltb (children_of pool n j) 2) (spoilt v)
     (pick (eqb (get_or v.marks (n + j) 0) 0)
-    (closed (header_at_lem pool n j) (kids_of go pool n j b (survey (set v.marks (n + j) (w + 1)) v.census)))
+    (closed (header_at pool n j) (kids_of go pool n j b (survey (set v.marks (n + j) (w + 1)) v.census)))
     (spoilt v))
 node_met go pool n w j Wrong v = spoilt v
 
@@ -105,7 +105,7 @@ unfoldable pub survey_from : ℕ → List ℕ → ℕ → ℕ → ℕ → Survey
 survey_from zero pool n w r v = pick v.census.sound (ref_met (λ j. spoilt) pool n (ref_of n r) v) v
 survey_from (suc more) pool n w r v =
     pick v.census.sound
-    (ref_met (λ j. node_met (survey_from more pool n) pool n w j (head_of w (header_at_lem pool n j))) pool n (ref_of n r) v) v
+    (ref_met (λ j. node_met (survey_from more pool n) pool n w j (head_of w (header_at pool n j))) pool n (ref_of n r) v) v
 
 -- the survey of a pool of n leaves, from the root
 unfoldable pub survey_of : List ℕ → ℕ → Survey

@@ -3,7 +3,7 @@
 
 ghost use Rattle.std.specs.Prelude.{◌≡◌, true, false, ◌+◌, ◌<◌, ◌≤◌, length, replicate};
 ghost use Rattle.pool.specs.Sizes.{Sized, bytes_of};
-ghost use Rattle.pool.specs.Places.{header_at_lem};
+ghost use Rattle.pool.specs.Places.{header_at};
 ghost use Rattle.walk.specs.Walks.{head_of};
 ghost use Rattle.survey.specs.Surveys.{survey, census, leaf_met, gather, join_of, Accepted, head_judged, node_met, survey_from, survey_of, Gives, Found};
 
@@ -112,7 +112,7 @@ fn survey_ref(pool: &[u64], n: usize, w: usize, r: u64, map: &mut [u8]) -> Censu
 #[cycle(survey_node_survey_ref)]
 fn survey_node(pool: &[u64], n: usize, w: usize, j: usize, map: &mut [u8]) -> Census
     requires { Sized pool.now n × (length map.old ≡ bytes_of n) × (w ≤ 16) × (j + 1 < n) }
-    ensures { Gives (node_met (survey_from 17 pool.now n) pool.now n w j (head_of w (header_at_lem pool.now n j))) map.old (survey map.new result) }
+    ensures { Gives (node_met (survey_from 17 pool.now n) pool.now n w j (head_of w (header_at pool.now n j))) map.old (survey map.new result) }
 {
     let word = pool::header(pool, n, j);
     let Head::Branch(b) = walk::accept(w, word) else {

@@ -7,7 +7,7 @@ use Prim.Native.Nat.{ℕ, zero, suc, ◌≤◌}
 use native.Mathlib.Omega.{arith}
 use borrow.Author.Tests.{lt-leb}
 use Rattle.digits.specs.Digits.{digit_of}
-use Rattle.pool.specs.Places.{word_at, header_at_lem}
+use Rattle.pool.specs.Places.{word_at, header_at}
 use Rattle.pool.specs.declared.Ref.{Ref}
 use Rattle.pool.specs.declared.Ref.TheVariants.{Empty, Leaf, Node, Bad}
 use Rattle.walk.specs.declared.Spot.{Spot}
@@ -49,7 +49,7 @@ module _ (pool : List ℕ) (n key : ℕ) where
     node_fewer : (f : ℕ) (s : Spot) (j b : ℕ) → Accepted pool n s.depth (word_at pool s.at) j b
         → let t = below n j b (digit_of key b) s in
         met_of (walk_from f pool n key test t) ≤ met_of (walk_from f pool n key never t)
-        → (u : Bool) → test key (header_at_lem pool n j) b ≡ u
+        → (u : Bool) → test key (header_at pool n j) b ≡ u
         → met_of (walk_from (suc f) pool n key test s) ≤ met_of (walk_from (suc f) pool n key never s)
     node_fewer f s j b a on true e =
         rw (walk_stops pool n key test f s j b a e, walk_goes pool n key never f s j b a (lt-leb 16 b a.b<)) (met_rises f (below n j b (digit_of key b) s))
@@ -62,5 +62,5 @@ module _ (pool : List ℕ) (n key : ℕ) where
         elim (met pool n s.depth (word_at pool s.at)) [
           | no_node r e i g ↦ rw (walk_ends pool n key test f s r e g, walk_ends pool n key never f s r e g) (omega arith)
           | wrong j a ↦ rw (walk_damaged pool n key test f s j a, walk_damaged pool n key never f s j a) (omega arith)
-          | node j b a ↦ node_fewer f s j b a (stopped_fewer f (below n j b (digit_of key b) s)) (test key (header_at_lem pool n j) b) refl
+          | node j b a ↦ node_fewer f s j b a (stopped_fewer f (below n j b (digit_of key b) s)) (test key (header_at pool n j) b) refl
         ]

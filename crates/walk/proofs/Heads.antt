@@ -13,7 +13,7 @@ use denote.Enum.Declared.{tag_of}
 use lib.Dec.{eqb, ltb}
 use Rattle.digits.specs.Choice.{pick}
 use Rattle.digits.specs.Headers.{depth_of, length_of}
-use Rattle.pool.specs.Places.{header_at_lem}
+use Rattle.pool.specs.Places.{header_at}
 use Rattle.pool.specs.Refs.{ref_of, Within}
 use Rattle.pool.specs.declared.Ref.{Ref}
 use Rattle.pool.specs.declared.Ref.TheVariants.{Empty, Leaf, Node, Bad}
@@ -79,7 +79,7 @@ low_no_node n r h = rw (le-leb r 1024 h) (go (eqb r 0) (ltb (r - 1) n))
 -- the reference r, met at walk depth w, is to node j, and its header is refused
 pub record Refused (pool : List ℕ) (n w r j : ℕ) : Type 0 where
   pub refers : ref_of n r ≡ Node j
-  pub head : head_of w (header_at_lem pool n j) ≡ Wrong
+  pub head : head_of w (header_at pool n j) ≡ Wrong
 
 -- what the reference r, met at walk depth w, comes to
 pub data Met (pool : List ℕ) (n w r : ℕ) : Type 0 where
@@ -90,14 +90,14 @@ pub data Met (pool : List ℕ) (n w r : ℕ) : Type 0 where
 pub met : (pool : List ℕ) (n w r : ℕ) → Met pool n w r
 met pool n w r = at_ref (ref_of n r) refl (within n r)
   where
-    at_head : (j : ℕ) → ref_of n r ≡ Node j → j + 1 < n → (h : Head) → head_of w (header_at_lem pool n j) ≡ h → Between w h → Met pool n w r
+    at_head : (j : ℕ) → ref_of n r ≡ Node j → j + 1 < n → (h : Head) → head_of w (header_at pool n j) ≡ h → Between w h → Met pool n w r
     at_head j e l (Branch b) f g = node j b (record { refers = e; j< = l; head = f; w≤b = g.0; b< = g.1 })
     at_head j e l Wrong f g = wrong j (record { refers = e; head = f })
 
     at_ref : (x : Ref) → ref_of n r ≡ x → Within n x → Met pool n w r
     at_ref Empty e l = no_node Empty e tt tt
     at_ref (Leaf i) e l = no_node (Leaf i) e l tt
-    at_ref (Node j) e l = at_head j e l (head_of w (header_at_lem pool n j)) refl (between w (header_at_lem pool n j))
+    at_ref (Node j) e l = at_head j e l (head_of w (header_at pool n j)) refl (between w (header_at pool n j))
     at_ref Bad e l = no_node Bad e tt tt
 
 -- what a turn's calls and matches tell: the reference is no node
@@ -107,7 +107,7 @@ unmatched (Leaf i) h = tt
 unmatched (Node j) h = absurd (⊎_elim (λ a. omega arith) (⊎_elim (λ a. omega arith) (λ a. omega arith)) h)
 unmatched Bad h = tt
 
-module _ (pool : List ℕ) (n w r : ℕ) {x : Ref} {y : Head} {j h : ℕ} (e : x ≡ ref_of n r) (f : x ≡ Node j) (g : h ≡ header_at_lem pool n j) (k : y ≡ head_of w h) where
+module _ (pool : List ℕ) (n w r : ℕ) {x : Ref} {y : Head} {j h : ℕ} (e : x ≡ ref_of n r) (f : x ≡ Node j) (g : h ≡ header_at pool n j) (k : y ≡ head_of w h) where
   -- or a node whose header is refused
   pub refused : y ≡ Wrong → Refused pool n w r j
   refused m = record { refers = sym e ∙ f; head = rw (← g, ← k) m }

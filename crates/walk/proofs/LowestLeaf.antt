@@ -6,7 +6,7 @@ use Prim.Native.Nat.{ℕ, zero, suc, ◌+◌, ◌≤◌, ◌<◌}
 use native.Mathlib.Decide.{dec_lt}
 use native.Mathlib.Omega.{arith}
 use borrow.Author.Tests.{lt-ltb, le-ltb}
-use Rattle.pool.specs.Places.{node_word, header_at_lem, child_at, child_word}
+use Rattle.pool.specs.Places.{node_word, header_at, child_at, child_word}
 use Rattle.pool.specs.Refs.{ref_of}
 use Rattle.pool.specs.declared.Ref.{Ref}
 use Rattle.pool.specs.declared.Ref.TheVariants.{Empty, Leaf, Node, Bad}
@@ -25,7 +25,7 @@ module _ (pool : List ℕ) (n : ℕ) where
   lowest_ends f w at r (Node j) e h = absurd h
   lowest_ends f w at r Bad e h = rw (e, lowest_from)
 
-  pub lowest_damaged : (f w at r j : ℕ) → Refused pool n w r j → lowest_from (suc f) pool n w at r ≡ NoKey (bad_header n j w (header_at_lem pool n j))
+  pub lowest_damaged : (f w at r j : ℕ) → Refused pool n w r j → lowest_from (suc f) pool n w at r ≡ NoKey (bad_header n j w (header_at pool n j))
   unfolding lowest_from
   lowest_damaged f w at r j a = rw (a.refers, a.head, lowest_from)
 

@@ -6,7 +6,7 @@ use mathlib.Core.List.{List}
 use Prim.Native.Nat.{ℕ, zero, suc, ◌+◌, ◌≤◌}
 use native.Mathlib.Omega.{arith}
 use Rattle.digits.specs.Digits.{digit_of}
-use Rattle.pool.specs.Places.{word_at, header_at_lem}
+use Rattle.pool.specs.Places.{word_at, header_at}
 use Rattle.pool.specs.Refs.{ref_of, Within}
 use Rattle.pool.specs.declared.Ref.{Ref}
 use Rattle.pool.specs.declared.Ref.TheVariants.{Empty, Leaf, Node, Bad}
@@ -21,11 +21,11 @@ use Rattle.walk.proofs.Heads.{NoNode, Refused, no_node, wrong, node, met}
 -- from s the walk comes to e, said without a bound
 pub data Walks (pool : List ℕ) (n key : ℕ) (test : Test) : Spot → End → Type 0 where
   ends : {s : Spot} {e : End} (r : Ref) → ref_of n (word_at pool s.at) ≡ r → Within n r → NoNode r → e ≡ end_of s r → Walks pool n key test s e
-  damaged : {s : Spot} {e : End} (j : ℕ) → Refused pool n s.depth (word_at pool s.at) j → e ≡ Damaged s.nodes (bad_header n j s.depth (header_at_lem pool n j))
+  damaged : {s : Spot} {e : End} (j : ℕ) → Refused pool n s.depth (word_at pool s.at) j → e ≡ Damaged s.nodes (bad_header n j s.depth (header_at pool n j))
       → Walks pool n key test s e
-  stops : {s : Spot} {e : End} (j b : ℕ) → Accepted pool n s.depth (word_at pool s.at) j b → test key (header_at_lem pool n j) b ≡ true
+  stops : {s : Spot} {e : End} (j b : ℕ) → Accepted pool n s.depth (word_at pool s.at) j b → test key (header_at pool n j) b ≡ true
       → e ≡ Stopped s j b → Walks pool n key test s e
-  goes : {s : Spot} {e : End} (j b : ℕ) → Accepted pool n s.depth (word_at pool s.at) j b → test key (header_at_lem pool n j) b ≡ false
+  goes : {s : Spot} {e : End} (j b : ℕ) → Accepted pool n s.depth (word_at pool s.at) j b → test key (header_at pool n j) b ≡ false
       → Walks pool n key test (below n j b (digit_of key b) s) e → Walks pool n key test s e
 
 module _ (pool : List ℕ) (n key : ℕ) (test : Test) where
@@ -38,23 +38,23 @@ module _ (pool : List ℕ) (n key : ℕ) (test : Test) where
   walk_ends f s Bad e h = rw (e, walk_from)
 
   pub walk_damaged : (f : ℕ) (s : Spot) (j : ℕ) → Refused pool n s.depth (word_at pool s.at) j → walk_from (suc f) pool n key test s
-      ≡ Damaged s.nodes (bad_header n j s.depth (header_at_lem pool n j))
+      ≡ Damaged s.nodes (bad_header n j s.depth (header_at pool n j))
   unfolding walk_from
   walk_damaged f s j a = rw (a.refers, a.head, walk_from)
 
   pub walk_stops : (f : ℕ) (s : Spot) (j b : ℕ) → Accepted pool n s.depth (word_at pool s.at) j b
-      → test key (header_at_lem pool n j) b ≡ true → walk_from (suc f) pool n key test s ≡ Stopped s j b
+      → test key (header_at pool n j) b ≡ true → walk_from (suc f) pool n key test s ≡ Stopped s j b
   unfolding walk_from
   walk_stops f s j b a l = rw (a.refers, a.head, l, walk_from)
 
   pub walk_goes : (f : ℕ) (s : Spot) (j b : ℕ) → Accepted pool n s.depth (word_at pool s.at) j b
-      → test key (header_at_lem pool n j) b ≡ false → walk_from (suc f) pool n key test s ≡ walk_from f pool n key test (below n j b (digit_of key b) s)
+      → test key (header_at pool n j) b ≡ false → walk_from (suc f) pool n key test s ≡ walk_from f pool n key test (below n j b (digit_of key b) s)
   unfolding walk_from
   walk_goes f s j b a l = rw (a.refers, a.head, l, walk_from)
 
   node_has_end : (f : ℕ) (s : Spot) (j b : ℕ) → Accepted pool n s.depth (word_at pool s.at) j b
       → Walks pool n key test (below n j b (digit_of key b) s) (walk_from f pool n key test (below n j b (digit_of key b) s))
-      → (u : Bool) → test key (header_at_lem pool n j) b ≡ u → Walks pool n key test s (walk_from (suc f) pool n key test s)
+      → (u : Bool) → test key (header_at pool n j) b ≡ u → Walks pool n key test s (walk_from (suc f) pool n key test s)
   node_has_end f s j b a on true l = stops j b a l (walk_stops f s j b a l)
   node_has_end f s j b a on false l = rw (walk_goes f s j b a l) (goes j b a l on)
 
@@ -67,7 +67,7 @@ module _ (pool : List ℕ) (n key : ℕ) (test : Test) where
         | wrong j a ↦ damaged j a (walk_damaged f s j a)
         | node j b a ↦
             node_has_end f s j b a (walk_has_end f (below n j b (digit_of key b) s) (omega (arith, a.b<)) (omega (arith, a.w≤b)))
-            (test key (header_at_lem pool n j) b) refl
+            (test key (header_at pool n j) b) refl
       ]
 
   -- and to no other
@@ -84,6 +84,6 @@ module _ (pool : List ℕ) (n key : ℕ) (test : Test) where
   walk_bound_unseen f g s d h l = walk_one_end (walk_has_end f s d h) g d l
 
   -- past a node that does not stop it the walk is the same
-  pub walk_on : (s : Spot) (j b : ℕ) → Accepted pool n s.depth (word_at pool s.at) j b → test key (header_at_lem pool n j) b ≡ false
+  pub walk_on : (s : Spot) (j b : ℕ) → Accepted pool n s.depth (word_at pool s.at) j b → test key (header_at pool n j) b ≡ false
       → walk_from 17 pool n key test (below n j b (digit_of key b) s) ≡ walk_from 17 pool n key test s
   walk_on s j b a l = walk_bound_unseen 17 16 (below n j b (digit_of key b) s) (omega arith) (omega arith) (omega arith) ∙ sym (walk_goes 16 s j b a l)

@@ -5,7 +5,7 @@ use Rattle.digits.specs.Choice.{pick}
 use Rattle.digits.specs.Loops.{scan, tally}
 use Rattle.digits.specs.Digits.{digit_of}
 use Rattle.digits.specs.Headers.{depth_of, length_of, differs}
-use Rattle.pool.specs.Places.{word_at, key_at, header_at_lem, child_at, node_word, child_word}
+use Rattle.pool.specs.Places.{word_at, key_at, header_at, child_at, node_word, child_word}
 use Rattle.pool.specs.Refs.{ref_of}
 use Rattle.pool.specs.declared.Ref.{Ref}
 use Rattle.pool.specs.declared.Ref.TheVariants.{Empty, Leaf, Node, Bad}
@@ -70,13 +70,13 @@ walk_from (suc more) pool n key test s =
       | Empty ↦ end_of s Empty
       | Leaf i ↦ end_of s (Leaf i)
       | Node j ↦
-          elim (head_of s.depth (header_at_lem pool n j)) [
+          elim (head_of s.depth (header_at pool n j)) [
             | Branch b ↦
-                elim (test key (header_at_lem pool n j) b) [
+                elim (test key (header_at pool n j) b) [
                   | true ↦ Stopped s j b
                   | false ↦ walk_from more pool n key test (below n j b (digit_of key b) s)
                 ]
-            | Wrong ↦ Damaged s.nodes (bad_header n j s.depth (header_at_lem pool n j))
+            | Wrong ↦ Damaged s.nodes (bad_header n j s.depth (header_at pool n j))
           ]
       | Bad ↦ end_of s Bad
     ]
@@ -124,13 +124,13 @@ lowest_from (suc more) pool n w at r =
       | Empty ↦ lowest_end pool at Empty
       | Leaf i ↦ lowest_end pool at (Leaf i)
       | Node j ↦
-          elim (head_of w (header_at_lem pool n j)) [
+          elim (head_of w (header_at pool n j)) [
             | Branch b ↦
                 elim (ltb (lowest_child pool n j) 16) [
                   | true ↦ lowest_from more pool n (b + 1) (child_word n j (lowest_child pool n j)) (child_at pool n j (lowest_child pool n j))
                   | false ↦ NoKey (bad_form (node_word n j))
                 ]
-            | Wrong ↦ NoKey (bad_header n j w (header_at_lem pool n j))
+            | Wrong ↦ NoKey (bad_header n j w (header_at pool n j))
           ]
       | Bad ↦ lowest_end pool at Bad
     ]

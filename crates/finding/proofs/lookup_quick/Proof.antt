@@ -6,7 +6,7 @@ use borrow.Author.Rules.{rules}
 use lib.ListN.{length}
 use Rattle.digits.specs.Headers.{differs}
 use Rattle.pool.specs.Sizes.{Sized}
-use Rattle.pool.specs.Places.{word_at, header_at_lem}
+use Rattle.pool.specs.Places.{word_at, header_at}
 use Rattle.walk.specs.Walks.{unlike, quick_walk}
 use Rattle.walk.specs.Ends.{Accepted}
 use Rattle.walk.proofs.Heads.{header_fits, NoNode, low_no_node, unmatched, refused, accepted}
@@ -140,7 +140,7 @@ differs-requires c κs = header_fits _ _ c.before.before.before.accept.ensures.0
 tells : (c : tie.After-differs invariant-loop decreases-loop)
     → let b = c.before.before in
     let t = b.before.before in
-    c.differs.result ≡ differs (header_at_lem (start t).args.pool.now (at-capacity t).n.given.0.0 (at-node t).r.given.0.0) (start t).args.key
+    c.differs.result ≡ differs (header_at (start t).args.pool.now (at-capacity t).n.given.0.0 (at-node t).r.given.0.0) (start t).args.key
 tells c =
     let t = c.before.before.before.before in
     c.differs.ensures ∙ ap (λ at. differs (word_at (start t).args.pool.now at) (start t).args.key) (at-word t).node_word_lem.ensures

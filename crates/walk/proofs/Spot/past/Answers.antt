@@ -1,0 +1,6 @@
+-- `past` goes below the node. Assumes nothing.
+use borrow.Author.Rules.{rules}
+use Rattle.walk.proofs.Spot.past.Goals as goal
+
+pub returns : goal.returns
+returns c = rw (← c.node_word.ensures)

@@ -1,0 +1,33 @@
+-- `children` counts as `tally` does: the count is that of the children passed. Assumes nothing.
+use mathlib.Core.Path.{◌≡◌, ap, ◌∙◌}
+use mathlib.Core.Logic.{⊎_elim}
+use Prim.Native.Nat.{ℕ, ◌-◌, ◌≤◌}
+use native.Mathlib.Omega.{arith}
+use borrow.Author.Rules.{rules}
+use Rattle.digits.specs.Loops.{tally}
+use Rattle.walk.specs.Walks.{is_child}
+use Rattle.walk.proofs.Loops.{tally_le}
+use Rattle.walk.proofs.Nodes.{counted, uncounted}
+use Rattle.walk.proofs.children.Goals as goal
+
+pub overflow_add-count : goal.overflow_add-count
+overflow_add-count c =
+    let a = c.args in
+    omega (arith, tally_le (is_child a.pool.now a.n a.j) c.loop-c.c)
+
+pub loop-c-preserved : goal.loop-c-preserved
+loop-c-preserved c =
+    let a = c.args in
+    let i = c.loop-c.c in
+    let e = c.child.ensures in (
+      search rules,
+      ⊎_elim (λ w. omega (arith, counted a.pool.now a.n a.j i e w.0.taken))
+          (λ w. omega (arith, uncounted a.pool.now a.n a.j i e w.0.left)) c.if-child-ne0.branch,
+    )
+
+pub returns : goal.returns
+returns c =
+    let a = c.args in
+    let l = c.loop-c in
+    let e : l.c ≡ 16 = omega arith in
+    l.invariant.1 ∙ ap (λ (m : ℕ). tally m (is_child a.pool.now a.n a.j)) e

@@ -1,0 +1,16 @@
+use mathlib.Core.Path.{◌≡◌, refl, ◌∙◌}
+use mathlib.Core.Logic.{⊎_elim}
+use Prim.Native.Nat.{◌-◌, ◌≤◌}
+use native.Mathlib.Omega.{arith}
+use borrow.Author.Rules.{rules}
+use Rattle.digits.specs.Loops.{scan}
+use Rattle.walk.specs.Walks.{other_child}
+use Rattle.walk.proofs.Loops.{scan_none}
+use Rattle.walk.proofs.Nodes.{is_other, other_here, given_later, other_later}
+use Rattle.walk.proofs.other_child.Given as goal
+
+abbrev pub invariant-loop-other : goal.invariant-loop-other
+invariant-loop-other l = (l.other ≤ 16) × (scan (16 - l.other) l.other (is_other l.pool l.n l.j l.at) ≡ other_child l.pool l.n l.j l.at)
+
+abbrev pub decreases-loop-other : goal.decreases-loop-other
+decreases-loop-other l = 16 - l.other
