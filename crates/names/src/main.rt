@@ -1,21 +1,22 @@
 // The program `names`: reads commands from standard input, and writes their answers to standard output.
 #![tactic(auto)]
 
-use libc::{STDIN_FILENO, STDOUT_FILENO};
+use std::io;
+use std::io::{Stdin, Stdout};
 use stream::{End, Sink};
 
-fn main() {
+fn main(rt: HostRuntime) -> io::Result<()> {
     let mut pool = [0u64; 4849];
     let mut map = [0u8; 511];
     session::start(&mut pool, &mut map);
     match stream::play(
-        STDIN_FILENO,
-        Sink::Write(STDOUT_FILENO),
+        rt.stdin(),
+        Sink::<Stdout, Stdin>::Write(rt.stdout()),
         &mut pool,
         &mut map,
     ) {
-        End::Whole => {}
-        End::NotRead => os::fail(b"names: standard input"),
-        End::NotTaken => os::fail(b"names: standard output"),
+        End::Whole => Ok(()),
+        End::NotRead(e) => eprintln!(rt; "names: standard input: {e}"),
+        End::NotTaken(e) => eprintln!(rt; "names: standard output: {e}"),
     }
 }

@@ -1,4 +1,4 @@
-// A session from one descriptor to another: reads, lends what it read to the session, and hands on what the session printed.
+// A session from a reader to a writer: reads, lends what it read to the session, and hands on what the session printed.
 #![tactic(auto)]
 
 ghost use Rattle.std.specs.Prelude.{◌≤◌, length};
@@ -6,67 +6,81 @@ ghost use Rattle.session.specs.Bytes.{most};
 
 use script::Reader;
 use session::{BYTES, LINE, WORDS};
+use std::io;
+use std::io::{ErrorKind, Read, Write};
 
-// Where the answers go: they are written to a descriptor, or held against what is read from it.
+// Where the answers go: they are written to a writer, or held against what is read from a reader.
 #[derive(Drop)]
-pub enum Sink {
-    Write(i32),
-    Compare(i32),
+pub enum Sink<W, R> {
+    Write(W),
+    Compare(R),
 }
 
 // How a run ended: all was read and handed on, a read failed, or a text was not taken.
 #[derive(Drop)]
 pub enum End {
     Whole,
-    NotRead,
-    NotTaken,
+    NotRead(io::Error),
+    NotTaken(io::Error),
 }
 
 // The reader after some of the input, or that a text was not taken.
 #[derive(Drop)]
 pub enum Passed {
     On(Reader),
-    Stopped,
+    Stopped(io::Error),
 }
 
-// Whether the next bytes of a descriptor are these. `space` is as long as the text.
-fn reads_as(fd: i32, text: &[u8], space: &mut [u8]) -> bool {
-    let got = io::read_full(fd, space);
-    check::same(text, &space[0..got])
+// What comes of a text that is not the expected one.
+fn not_as_expected() -> io::Result<()> {
+    Err(io::Error::new(ErrorKind::InvalidData, "not as expected"))
+}
+
+// Fails where the next bytes of a reader are not these. `space` is as long as the text.
+fn reads_as<R: Read>(expected: &mut R, text: &[u8], space: &mut [u8]) -> io::Result<()> {
+    expected.read_exact(space)?;
+    if text == &*space {
+        Ok(())
+    } else {
+        not_as_expected()
+    }
 }
 
 // The same, for a text of a page at most.
-fn matches(fd: i32, text: &[u8]) -> bool {
-    let mut space = io::large_buffer();
+fn matches<R: Read>(expected: &mut R, text: &[u8]) -> io::Result<()> {
+    let mut space = [0u8; 65536];
     let n = text.len();
     if space.len() < n {
-        return false;
+        return not_as_expected();
     }
-    reads_as(fd, text, &mut space[0..n])
+    reads_as(expected, text, &mut space[0..n])
 }
 
-// Hands a text on; whether it was taken.
-fn hand_on(sink: Sink, text: &[u8]) -> bool {
+// Hands a text on; fails where it is not taken.
+fn hand_on<W: Write, R: Read>(sink: &mut Sink<W, R>, text: &[u8]) -> io::Result<()> {
     match sink {
-        Sink::Write(fd) => io::write_all(fd, text),
-        Sink::Compare(fd) => matches(fd, text),
+        Sink::Write(writer) => writer.write_all(text),
+        Sink::Compare(expected) => matches(expected, text),
     }
 }
 
-// Nothing is left to hold an answer against.
-fn at_end(sink: Sink) -> bool {
+// Fails where something is left to hold an answer against.
+fn at_end<W: Write, R: Read>(sink: &mut Sink<W, R>) -> io::Result<()> {
     match sink {
-        Sink::Write(_) => true,
-        Sink::Compare(fd) => {
+        Sink::Write(_) => Ok(()),
+        Sink::Compare(expected) => {
             let mut byte = [0u8; 1];
-            libc::read(fd, &mut byte) == 0
+            match expected.read(&mut byte)? {
+                0 => Ok(()),
+                _ => not_as_expected(),
+            }
         }
     }
 }
 
 // Takes all the bytes of a piece of the input, a page at a time.
-fn pass(
-    sink: Sink,
+fn pass<W: Write, R: Read>(
+    sink: &mut Sink<W, R>,
     reader: Reader,
     input: &[u8],
     line: &mut [u8; LINE],
@@ -82,8 +96,8 @@ fn pass(
         let p = session::run(next, &input[from..], line, pool, map, page);
         let end = p.end;
         let used = p.used;
-        if !hand_on(sink, &page[0..end]) {
-            return Passed::Stopped;
+        if let Err(e) = hand_on(sink, &page[0..end]) {
+            return Passed::Stopped(e);
         }
         next = p.reader;
         from += used;
@@ -91,50 +105,58 @@ fn pass(
     Passed::On(next)
 }
 
-// Takes the end of the input; whether all that was printed was taken.
-fn close(
-    sink: Sink,
+// Takes the end of the input; fails where not all that was printed is taken.
+fn close<W: Write, R: Read>(
+    sink: &mut Sink<W, R>,
     reader: Reader,
     line: &[u8; LINE],
     pool: &mut [u64],
     map: &mut [u8],
     page: &mut [u8],
-) -> bool
+) -> io::Result<()>
     requires { most ≤ length page.old }
 {
     let end = session::finish(reader, line, pool, map, page);
-    if !hand_on(sink, &page[0..end]) {
-        return false;
-    }
+    hand_on(sink, &page[0..end])?;
     at_end(sink)
 }
 
 // Runs a session on all that can be read from `source`. A loop that is proved to end counts its turns down, from a number that no run uses up.
-pub fn play(source: i32, sink: Sink, pool: &mut [u64; WORDS], map: &mut [u8; BYTES]) -> End {
+pub fn play<S: Read + Drop, W: Write + Drop, R: Read + Drop>(
+    mut source: S,
+    mut sink: Sink<W, R>,
+    pool: &mut [u64; WORDS],
+    map: &mut [u8; BYTES],
+) -> End {
     let mut line = session::blank_line();
-    let mut input = io::large_buffer();
-    let mut page = io::large_buffer();
+    let mut input = [0u8; 65536];
+    let mut page = [0u8; 65536];
     let mut reader = Reader::new();
     let mut turns = u64::MAX;
     while 0 < turns {
-        let got = libc::read(source, &mut input);
-        if got < 0 {
-            return End::NotRead;
-        }
-        if got == 0 {
+        let n = match source.read(&mut input) {
+            Ok(n) => n,
+            Err(e) => return End::NotRead(e),
+        };
+        if n == 0 {
             break;
         }
-        let n = io::count(got, &input);
-        let Passed::On(next) = pass(sink, reader, &input[0..n], &mut line, pool, map, &mut page)
-        else {
-            return End::NotTaken;
-        };
-        reader = next;
+        match pass(
+            &mut sink,
+            reader,
+            &input[0..n],
+            &mut line,
+            pool,
+            map,
+            &mut page,
+        ) {
+            Passed::On(next) => reader = next,
+            Passed::Stopped(e) => return End::NotTaken(e),
+        }
         turns -= 1;
     }
-    if close(sink, reader, &line, pool, map, &mut page) {
-        End::Whole
-    } else {
-        End::NotTaken
+    match close(&mut sink, reader, &line, pool, map, &mut page) {
+        Ok(()) => End::Whole,
+        Err(e) => End::NotTaken(e),
     }
 }
