@@ -2,14 +2,11 @@
 -- Assumes nothing.
 use mathlib.Core.Path.{◌≡◌, refl, sym, ◌∙◌}
 use mathlib.Core.Bool.{Bool, true, false}
-use mathlib.Core.List.{List, [], ◌∷◌}
-use mathlib.Core.Logic.{⊎_elim}
+use mathlib.Core.List.{List}
 use Prim.Native.Nat.{ℕ, ◌+◌, ◌-◌, ◌≤◌, ◌<◌}
 use native.Mathlib.Decide.{dec_lt}
 use native.Mathlib.Omega.{arith}
 use borrow.Author.Tests.{lt-ltb, ltb-false, le-leb}
-use types.Run.{OneOf}
-use denote.Enum.Declared.{tag_of}
 use lib.Dec.{eqb, ltb}
 use Rattle.digits.specs.Choice.{pick}
 use Rattle.digits.specs.Headers.{depth_of, length_of}
@@ -17,7 +14,6 @@ use Rattle.pool.specs.Places.{header_at}
 use Rattle.pool.specs.Refs.{ref_of, Within}
 use Rattle.pool.specs.declared.Ref.{Ref}
 use Rattle.pool.specs.declared.Ref.TheVariants.{Empty, Leaf, Node, Bad}
-use Rattle.pool.specs.contracts.Ref.{the_type}
 use Rattle.pool.proofs.Refs.{within}
 use Rattle.walk.specs.declared.Head.{Head}
 use Rattle.walk.specs.declared.Head.TheVariants.{Branch, Wrong}
@@ -101,10 +97,10 @@ met pool n w r = at_ref (ref_of n r) refl (within n r)
     at_ref Bad e l = no_node Bad e tt tt
 
 -- what a turn's calls and matches tell: the reference is no node
-pub unmatched : (x : Ref) → OneOf (0 ∷ 1 ∷ 3 ∷ []) (tag_of the_type x) → NoNode x
+pub unmatched : (x : Ref) → ((j : ℕ) → x ≡ Node j → ⊥) → NoNode x
 unmatched Empty h = tt
 unmatched (Leaf i) h = tt
-unmatched (Node j) h = absurd (⊎_elim (λ a. omega arith) (⊎_elim (λ a. omega arith) (λ a. omega arith)) h)
+unmatched (Node j) h = absurd (h j refl)
 unmatched Bad h = tt
 
 module _ (pool : List ℕ) (n w r : ℕ) {x : Ref} {y : Head} {j h : ℕ} (e : x ≡ ref_of n r) (f : x ≡ Node j) (g : h ≡ header_at pool n j) (k : y ≡ head_of w h) where

@@ -72,11 +72,11 @@ module _ (pool : List ℕ) (n key : ℕ) (test : Test) where
 
   -- and to no other
   pub walk_one_end : {s : Spot} {e : End} → Walks pool n key test s e → (f : ℕ) → s.depth ≤ 16 → 17 ≤ f + s.depth → e ≡ walk_from f pool n key test s
-  walk_one_end w zero d h = absurd (omega arith)
+  walk_one_end {s} w zero d h = absurd (omega arith)
   walk_one_end {s} (ends r e i h q) (suc f) d g = q ∙ sym (walk_ends f s r e h)
   walk_one_end {s} (damaged j a q) (suc f) d g = q ∙ sym (walk_damaged f s j a)
   walk_one_end {s} (stops j b a l q) (suc f) d g = q ∙ sym (walk_stops f s j b a l)
-  walk_one_end {s} (goes j b a l w) (suc f) d g = walk_one_end w f (omega (arith, a.b<)) (omega (arith, a.w≤b)) ∙ sym (walk_goes f s j b a l)
+  walk_one_end {s} (goes j b a l w) (suc f) d g = walk_one_end {s = below n j b (digit_of key b) s} w f (omega (arith, a.b<)) (omega (arith, a.w≤b)) ∙ sym (walk_goes f s j b a l)
 
   -- so the bound is not seen
   pub walk_bound_unseen : (f g : ℕ) (s : Spot) → s.depth ≤ 16 → 17 ≤ f + s.depth → 17 ≤ g + s.depth

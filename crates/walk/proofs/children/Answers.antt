@@ -1,7 +1,6 @@
 -- `children` counts as `tally` does: the count is that of the children passed. Assumes nothing.
 use mathlib.Core.Path.{◌≡◌, ap, ◌∙◌}
-use mathlib.Core.Logic.{⊎_elim}
-use Prim.Native.Nat.{ℕ, ◌-◌, ◌≤◌}
+use Prim.Native.Nat.{ℕ}
 use native.Mathlib.Omega.{arith}
 use borrow.Author.Rules.{rules}
 use Rattle.digits.specs.Loops.{tally}
@@ -9,6 +8,11 @@ use Rattle.walk.specs.Walks.{is_child}
 use Rattle.walk.proofs.Loops.{tally_le}
 use Rattle.walk.proofs.Nodes.{counted, uncounted}
 use Rattle.walk.proofs.children.Goals as goal
+use Rattle.walk.proofs.children.Goals.{then-child-ne0, else-child-ne0}
+
+pub loop-c-init : goal.loop-c-init
+unfolding tally
+loop-c-init c = search rules
 
 pub overflow_add-count : goal.overflow_add-count
 overflow_add-count c =
@@ -21,8 +25,10 @@ loop-c-preserved c =
     let i = c.loop-c.c in
     let e = c.child.ensures in (
       search rules,
-      ⊎_elim (λ w. omega (arith, counted a.pool.now a.n a.j i e w.0.taken))
-          (λ w. omega (arith, uncounted a.pool.now a.n a.j i e w.0.left)) c.if-child-ne0.branch,
+      elim c.if-child-ne0.branch [
+        | then-child-ne0 w ↦ omega (arith, counted a.pool.now a.n a.j i e w.if-child-ne0.true)
+        | else-child-ne0 w ↦ omega (arith, uncounted a.pool.now a.n a.j i e w.if-child-ne0.false)
+      ],
     )
 
 pub returns : goal.returns

@@ -1,12 +1,7 @@
-use mathlib.Core.Path.{◌≡◌, ap, ◌∙◌}
-use mathlib.Core.Logic.{⊎_elim}
-use Prim.Native.Nat.{ℕ, ◌-◌, ◌≤◌}
-use native.Mathlib.Omega.{arith}
-use borrow.Author.Rules.{rules}
+use mathlib.Core.Path.{◌≡◌}
+use Prim.Native.Nat.{◌-◌, ◌≤◌}
 use Rattle.digits.specs.Loops.{tally}
 use Rattle.walk.specs.Walks.{is_child}
-use Rattle.walk.proofs.Loops.{tally_le}
-use Rattle.walk.proofs.Nodes.{counted, uncounted}
 use Rattle.walk.proofs.children.Given as goal
 
 abbrev pub invariant-loop-c : goal.invariant-loop-c

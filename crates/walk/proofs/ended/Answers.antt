@@ -1,5 +1,4 @@
 -- `ended` goes by cases on the reference. Assumes nothing.
-use borrow.Author.Rules.{rules}
 use Rattle.walk.proofs.ended.Goals as goal
 
 pub returns-in-Empty : goal.returns-in-Empty

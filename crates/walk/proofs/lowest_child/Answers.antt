@@ -1,10 +1,7 @@
 -- `lowest_child` scans: the scan from here on finds what the whole scan finds. Assumes nothing.
-use mathlib.Core.Path.{◌≡◌, refl, ◌∙◌}
-use Prim.Native.Nat.{◌-◌, ◌≤◌}
+use mathlib.Core.Path.{refl, ◌∙◌}
 use native.Mathlib.Omega.{arith}
 use borrow.Author.Rules.{rules}
-use Rattle.digits.specs.Loops.{scan}
-use Rattle.walk.specs.Walks.{is_child, lowest_child}
 use Rattle.walk.proofs.Loops.{scan_none}
 use Rattle.walk.proofs.Nodes.{lowest_here, lowest_later}
 use Rattle.walk.proofs.lowest_child.Goals as goal

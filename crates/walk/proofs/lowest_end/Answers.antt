@@ -1,5 +1,4 @@
 -- `lowest_end` goes by cases on the reference. Assumes nothing.
-use borrow.Author.Rules.{rules}
 use Rattle.walk.proofs.lowest_end.Goals as goal
 
 pub leaf_key-requires : goal.leaf_key-requires

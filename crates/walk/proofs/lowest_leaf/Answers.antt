@@ -1,10 +1,8 @@
 -- `lowest_leaf` goes on as the definition does: from where it stands it comes to the whole way's key. Assumes nothing.
-use mathlib.Core.Path.{◌≡◌, refl, sym, ◌∙◌, subst}
-use Prim.Native.Nat.{◌-◌, ◌≤◌}
+use mathlib.Core.Path.{refl, sym, ◌∙◌, subst}
 use native.Mathlib.Omega.{arith}
 use borrow.Author.Rules.{rules}
 use Rattle.pool.specs.Refs.{Within}
-use Rattle.walk.specs.Walks.{lowest_from, lowest_of}
 use Rattle.walk.specs.Ends.{Accepted}
 use Rattle.walk.proofs.Heads.{unmatched, refused, accepted}
 use Rattle.walk.proofs.LowestLeaf.{lowest_ends, lowest_damaged, lowest_childless, lowest_on}
@@ -12,7 +10,7 @@ use Rattle.walk.proofs.lowest_leaf.Goals as goal
 use Rattle.walk.proofs.lowest_leaf.Goals.{In-Branch}
 
 node : (c : In-Branch)
-    → 
+    →
     let a = c.args in
     let l = c.loop-j in
     Accepted a.pool.now a.n l.depth l.x c.in-Node.j c.in-Branch.b
@@ -27,7 +25,7 @@ pub returns-in_default : goal.returns-in_default
 returns-in_default c =
     let r = c.reference-s in
     c.lowest_end.ensures
-    ∙ sym (lowest_ends _ _ 16 _ _ _ r.result (sym r.ensures.0) (unmatched r.result c.in_default.keys2))
+    ∙ sym (lowest_ends _ _ 16 _ _ _ r.result (sym r.ensures.0) (unmatched r.result c.in_default.not-Node))
     ∙ c.loop-j.invariant.1
 
 pub header-header-requires : goal.header-header-requires

@@ -1,12 +1,6 @@
-use mathlib.Core.Path.{◌≡◌, refl, sym, ◌∙◌, subst}
+use mathlib.Core.Path.{◌≡◌}
 use Prim.Native.Nat.{◌-◌, ◌≤◌}
-use native.Mathlib.Omega.{arith}
-use borrow.Author.Rules.{rules}
-use Rattle.pool.specs.Refs.{Within}
 use Rattle.walk.specs.Walks.{lowest_from, lowest_of}
-use Rattle.walk.specs.Ends.{Accepted}
-use Rattle.walk.proofs.Heads.{unmatched, refused, accepted}
-use Rattle.walk.proofs.LowestLeaf.{lowest_ends, lowest_damaged, lowest_childless, lowest_on}
 use Rattle.walk.proofs.lowest_leaf.Given as goal
 
 abbrev pub invariant-loop-j : goal.invariant-loop-j

@@ -1,14 +1,11 @@
 -- `other_child` scans: the scan from here on finds what the whole scan finds. Assumes nothing.
-use mathlib.Core.Path.{◌≡◌, refl, ◌∙◌}
-use mathlib.Core.Logic.{⊎_elim}
-use Prim.Native.Nat.{◌-◌, ◌≤◌}
+use mathlib.Core.Path.{refl, ◌∙◌}
 use native.Mathlib.Omega.{arith}
 use borrow.Author.Rules.{rules}
-use Rattle.digits.specs.Loops.{scan}
-use Rattle.walk.specs.Walks.{other_child}
 use Rattle.walk.proofs.Loops.{scan_none}
-use Rattle.walk.proofs.Nodes.{is_other, other_here, given_later, other_later}
+use Rattle.walk.proofs.Nodes.{other_here, given_later, other_later}
 use Rattle.walk.proofs.other_child.Goals as goal
+use Rattle.walk.proofs.other_child.Goals.{then-node_word-other+else-child-ne0, else-node_word-other}
 
 pub loop-other-init : goal.loop-other-init
 loop-other-init c = (search rules, refl)
@@ -26,9 +23,10 @@ loop-other-preserved c =
     let l = c.loop-other in
     let w = c.node_word.ensures in (
       search rules,
-      ⊎_elim (λ u. other_later a.pool.now a.n a.j a.at l.other (search rules) u.1.ensures u.2.left)
-          (λ u. given_later a.pool.now a.n a.j a.at l.other (search rules) (omega (arith, u.left, w))) c.if-node_word-other.branch
-          ∙ l.invariant.1,
+      elim c.if-node_word-other.branch [
+        | then-node_word-other+else-child-ne0 u ↦ other_later a.pool.now a.n a.j a.at l.other (search rules) u.child.ensures u.if-child-ne0.false
+        | else-node_word-other u ↦ given_later a.pool.now a.n a.j a.at l.other (search rules) (omega (arith, u.if-node_word-other.false, w))
+      ] ∙ l.invariant.1,
     )
 
 pub returns : goal.returns

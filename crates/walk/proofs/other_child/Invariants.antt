@@ -1,12 +1,8 @@
-use mathlib.Core.Path.{◌≡◌, refl, ◌∙◌}
-use mathlib.Core.Logic.{⊎_elim}
+use mathlib.Core.Path.{◌≡◌}
 use Prim.Native.Nat.{◌-◌, ◌≤◌}
-use native.Mathlib.Omega.{arith}
-use borrow.Author.Rules.{rules}
 use Rattle.digits.specs.Loops.{scan}
 use Rattle.walk.specs.Walks.{other_child}
-use Rattle.walk.proofs.Loops.{scan_none}
-use Rattle.walk.proofs.Nodes.{is_other, other_here, given_later, other_later}
+use Rattle.walk.proofs.Nodes.{is_other}
 use Rattle.walk.proofs.other_child.Given as goal
 
 abbrev pub invariant-loop-other : goal.invariant-loop-other

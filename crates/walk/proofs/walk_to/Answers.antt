@@ -1,14 +1,12 @@
 -- `walk_to` goes on as the walk does: from where it stands the walk comes to the end of the whole walk. Assumes nothing.
-use mathlib.Core.Path.{◌≡◌, refl, sym, ◌∙◌, subst}
-use Prim.Native.Nat.{◌-◌}
+use mathlib.Core.Path.{refl, sym, ◌∙◌, subst}
 use native.Mathlib.Omega.{arith}
 use borrow.Author.Rules.{rules}
 use borrow.Author.Tests.{le-leb, lt-leb}
 use Rattle.digits.proofs.Digits.{digit_lt}
 use Rattle.pool.specs.Places.{word_at}
 use Rattle.pool.specs.Refs.{Within}
-use Rattle.walk.specs.Walks.{past, walk_from, walk_to}
-use Rattle.walk.specs.Ends.{Accepted, Inside}
+use Rattle.walk.specs.Ends.{Accepted}
 use Rattle.walk.proofs.Heads.{unmatched, refused, accepted}
 use Rattle.walk.proofs.Walks.{walk_ends, walk_damaged, walk_stops, walk_on}
 use Rattle.walk.proofs.Ends.{root_inside, below_inside}
@@ -16,7 +14,7 @@ use Rattle.walk.proofs.walk_to.Goals as goal
 use Rattle.walk.proofs.walk_to.Goals.{In-Branch}
 
 node : (c : In-Branch)
-    → 
+    →
     let a = c.args in
     let l = c.loop-j in
     Accepted a.pool.now a.n l.s.depth (word_at a.pool.now l.s.at) c.in-Node.j c.in-Branch.b
@@ -30,7 +28,7 @@ loop-j-init c = rw c.root-s.ensures (root_inside c.requires _, refl)
 pub returns-in_default : goal.returns-in_default
 returns-in_default c =
     let r = c.reference-r in
-    c.ended.ensures ∙ sym (walk_ends _ _ _ _ 16 _ r.result (sym r.ensures.0) (unmatched r.result c.in_default.keys2)) ∙ c.loop-j.invariant.1
+    c.ended.ensures ∙ sym (walk_ends _ _ _ _ 16 _ r.result (sym r.ensures.0) (unmatched r.result c.in_default.not-Node)) ∙ c.loop-j.invariant.1
 
 pub header-header-requires : goal.header-header-requires
 header-header-requires c =

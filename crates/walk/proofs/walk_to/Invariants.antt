@@ -1,16 +1,7 @@
-use mathlib.Core.Path.{◌≡◌, refl, sym, ◌∙◌, subst}
+use mathlib.Core.Path.{◌≡◌}
 use Prim.Native.Nat.{◌-◌}
-use native.Mathlib.Omega.{arith}
-use borrow.Author.Rules.{rules}
-use borrow.Author.Tests.{le-leb, lt-leb}
-use Rattle.digits.proofs.Digits.{digit_lt}
-use Rattle.pool.specs.Places.{word_at}
-use Rattle.pool.specs.Refs.{Within}
 use Rattle.walk.specs.Walks.{past, walk_from, walk_to}
-use Rattle.walk.specs.Ends.{Accepted, Inside}
-use Rattle.walk.proofs.Heads.{unmatched, refused, accepted}
-use Rattle.walk.proofs.Walks.{walk_ends, walk_damaged, walk_stops, walk_on}
-use Rattle.walk.proofs.Ends.{root_inside, below_inside}
+use Rattle.walk.specs.Ends.{Inside}
 use Rattle.walk.proofs.walk_to.Given as goal
 
 abbrev pub invariant-loop-j : goal.invariant-loop-j

@@ -1,6 +1,4 @@
 -- `bad_header` judges the depth, and leaves the branch place. Assumes nothing.
-use native.Mathlib.Omega.{arith}
-use borrow.Author.Rules.{rules}
 use borrow.Author.Tests.{lt-ltb, le-ltb}
 use Rattle.walk.proofs.Fault.bad_header.Goals as goal
 

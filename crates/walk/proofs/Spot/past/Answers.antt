@@ -1,5 +1,4 @@
 -- `past` goes below the node. Assumes nothing.
-use borrow.Author.Rules.{rules}
 use Rattle.walk.proofs.Spot.past.Goals as goal
 
 pub returns : goal.returns
