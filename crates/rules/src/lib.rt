@@ -3,7 +3,7 @@
 
 // What is split: the word of the reference, the walk depth there, what it refers to, a key below that, and the first digit in which the new key
 // differs from it.
-#[derive(Drop)]
+#[derive(Clone, Copy)]
 pub struct Cleft {
     pub at: usize,
     pub depth: usize,
