@@ -4,7 +4,7 @@ use mathlib.Core.Path.{◌≡◌, refl, sym, ◌∙◌, subst}
 use Prim.Native.Nat.{ℕ, ◌+◌, ◌≤◌, ◌<◌}
 use mathlib.Core.List.{List, [], ◌∷◌}
 use native.Mathlib.Omega.{arith}
-use Rattle.tree.specs.Tree.{Tree, empty, leaf, node, upd, sum, mult, On, here, down, sub, plug, dep, Stands}
+use Rattle.tree.specs.Tree.{Tree, empty, leaf, node, sum, mult, On, here, down, sub, plug, dep, Stands}
 use Rattle.tree.specs.Straight.{StraightBut}
 use Rattle.tree.proofs.Basics.{upd_case, one_at, sum_has, sum_two}
 use Rattle.tree.proofs.Places.{sub_mult}
