@@ -195,4 +195,4 @@ module _ (D N : ℕ) (m : Mem) (t : Tree ℕ) (H : Held D N m t) where
         let C : Child (digit_in D) ρ c x b s kids t = child (digit_in D) ρ c x b s kids t (digit_lt D k b) p in
         subst (λ i. Puts D N m t k v (growing z k v i) (z ∷ [])) (ref_child D N ρ c x b s kids t p)
         (puts_leaf (ρ ++ c ∷ []) (record { on = C.stands.on; is = C.stands.is ∙ e })
-        (rw (C.dep_is 0, C.Pre-is (λ i. 0)) (agree_down (digit_in D) b c s k agree refl)))
+        (rw (C.dep_is 0, C.pre_is (λ i. 0)) (agree_down (digit_in D) b c s k agree refl)))
