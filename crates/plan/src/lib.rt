@@ -5,7 +5,7 @@ ghost use Rattle.std.specs.Prelude.{◌≡◌, [], ◌∷◌, ◌≤◌, min, le
 ghost use Rattle.plan.specs.Plans.{all_but_last, the_switch, one_group, known, fences_of, fenced, plan_of, refused, planned_of, after, store_of, step_of, StepGives, ran, stores_in, makes_of, RunGives};
 
 // What a plan does to the map. Slots are named by their byte number in the map.
-#[derive(Drop)]
+#[derive(Clone, Copy)]
 pub enum Effect {
     Nothing,
     TakesLeaf(usize),
@@ -31,7 +31,7 @@ pub fn is_known(generation: u64) -> bool
 
 // At most 21 stores, each a word number and a value; unused places are 0. They are in groups, `first` of them in the first and the others, if
 // there are any, in the second; `fences` is how many fences the caller makes, one after each group or none. A step reads neither.
-#[derive(Drop)]
+#[derive(Clone, Copy)]
 pub struct Plan {
     pub words: [usize; 21],
     pub values: [u64; 21],
@@ -42,7 +42,7 @@ pub struct Plan {
 }
 
 // What a planning call answers: document 01's number, and the plan.
-#[derive(Drop)]
+#[derive(Clone, Copy)]
 pub struct Planned {
     pub number: u64,
     pub plan: Plan,
