@@ -29,9 +29,9 @@ module _ (base x b d : ℕ) (is : d ≡ value_of b) where
   unfolding with_digit
   too_large p h r = rw (← is) (simp (lt-ltb d base h, lt-leb (x * base + d) most (fits_no_more base x d p r)))
 
-  pub one_more_lem : 0 < base → d < base → d ≤ most → x ≤ (most - d) / base → Is (x * base + d) ≡ with_digit base x b
+  pub one_more : 0 < base → d < base → d ≤ most → x ≤ (most - d) / base → Is (x * base + d) ≡ with_digit base x b
   unfolding with_digit
-  one_more_lem p h l r = rw (← is) (simp (lt-ltb d base h, le-leb (x * base + d) most (fits_more base x d p l r)))
+  one_more p h l r = rw (← is) (simp (lt-ltb d base h, le-leb (x * base + d) most (fits_more base x d p l r)))
 
 -- reading goes on at the next digit, or stops; past the last digit it is done
 pub read_out : (base x i : ℕ) (s : List ℕ) → length s ≤ i → number_from base x (drop i s) ≡ Is x
