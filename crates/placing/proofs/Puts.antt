@@ -2,12 +2,10 @@
 -- Assumes nothing.
 use mathlib.Core.Path.{◌≡◌, refl, sym, ◌∙◌}
 use mathlib.Core.Logic.{◌≢◌}
-use mathlib.Core.List.{List, [], ◌∷◌}
+use mathlib.Core.List.{List}
 use Prim.Native.Nat.{ℕ, ◌+◌, ◌-◌, ◌≤◌, ◌<◌}
 use native.Mathlib.Omega.{arith}
 use borrow.Author.Tests.{eq-eqb, ne_eqb}
-use types.Run.{OneOf, miss}
-use denote.Enum.Declared.{tag_of}
 use lib.ListN.{length}
 use Rattle.digits.specs.Digits.{first_diff}
 use Rattle.digits.proofs.Digits.{first_diff_le}
@@ -24,7 +22,6 @@ use Rattle.walk.specs.declared.End.TheVariants.{AtLeaf, AtEmpty, Stopped, Damage
 use Rattle.walk.specs.declared.Lowest.{Lowest}
 use Rattle.walk.specs.declared.Fault.{Fault}
 use Rattle.walk.specs.declared.Lowest.TheVariants.{Key, NoKey}
-use Rattle.walk.specs.contracts.End.{the_type}
 use Rattle.walk.proofs.Ends.{walk_inside, walk_same, Stops, walk_last}
 use Rattle.plan.specs.Plans.{Decided, refused}
 use Rattle.rules.specs.declared.Cleft.{Cleft}
@@ -110,14 +107,14 @@ module _ {pool : List ℕ} {n k k2 f : ℕ} {e : End} (w : Walked pool n k k2 f 
       gap_elsewhere d l = leads_refused (λ map v. rw (← placed map v, stopped, eq-eqb b f d, ne_eqb (s.nodes + 1) last l))
 
     -- what two matches leave
-    pub beside_damaged : OneOf (1 ∷ 2 ∷ 3 ∷ []) (tag_of the_type e) → OneOf (0 ∷ 1 ∷ 3 ∷ []) (tag_of the_type e) → Besides pool n k last gap k2 (Refused 2)
+    pub beside_damaged : ((s : Spot) (i : ℕ) → e ≡ AtLeaf s i → ⊥) → ((s : Spot) (j b : ℕ) → e ≡ Stopped s j b → ⊥) → Besides pool n k last gap k2 (Refused 2)
     beside_damaged p q = leads_refused (λ map v. rw (← placed map v) (go map v e p q))
       where
-        go : (map : List ℕ) (v : ℕ) (e : End) → OneOf (1 ∷ 2 ∷ 3 ∷ []) (tag_of the_type e) → OneOf (0 ∷ 1 ∷ 3 ∷ []) (tag_of the_type e)
+        go : (map : List ℕ) (v : ℕ) (e : End) → ((s : Spot) (i : ℕ) → e ≡ AtLeaf s i → ⊥) → ((s : Spot) (j b : ℕ) → e ≡ Stopped s j b → ⊥)
             → refused 2 ≡ placed_at pool map n k v k2 f last gap e
-        go map v (AtLeaf s i) p q = absurd (miss (1 ∷ 2 ∷ 3 ∷ []) 0 tt p)
+        go map v (AtLeaf s i) p q = absurd (p s i refl)
         go map v (AtEmpty s) p q = refl
-        go map v (Stopped s j b) p q = absurd (miss (0 ∷ 1 ∷ 3 ∷ []) 2 tt q)
+        go map v (Stopped s j b) p q = absurd (q s j b refl)
         go map v (Damaged m f) p q = refl
 
 -- ---- the walk ended at leaf i, with key x
@@ -162,14 +159,14 @@ module _ (pool : List ℕ) (n k : ℕ) {e : End} (walks : e ≡ walk_of pool n k
   ends_lead q b = record { able = b.able; plans = λ map v. rw (← walks, q) (b.plans map v) }
 
   -- what two matches leave
-  pub ends_damaged : OneOf (1 ∷ 2 ∷ 3 ∷ []) (tag_of the_type e) → OneOf (0 ∷ 2 ∷ 3 ∷ []) (tag_of the_type e)
+  pub ends_damaged : ((s : Spot) (i : ℕ) → e ≡ AtLeaf s i → ⊥) → ((s : Spot) → e ≡ AtEmpty s → ⊥)
       → Leads n k (Refused 2) (λ map v. put_at pool map n k v (walk_of pool n k))
   ends_damaged p q = leads_refused (λ map v. rw (← walks) (go map v e p q))
     where
-      go : (map : List ℕ) (v : ℕ) (e : End) → OneOf (1 ∷ 2 ∷ 3 ∷ []) (tag_of the_type e) → OneOf (0 ∷ 2 ∷ 3 ∷ []) (tag_of the_type e)
+      go : (map : List ℕ) (v : ℕ) (e : End) → ((s : Spot) (i : ℕ) → e ≡ AtLeaf s i → ⊥) → ((s : Spot) → e ≡ AtEmpty s → ⊥)
           → refused 2 ≡ put_at pool map n k v e
-      go map v (AtLeaf s i) p q = absurd (miss (1 ∷ 2 ∷ 3 ∷ []) 0 tt p)
-      go map v (AtEmpty s) p q = absurd (miss (0 ∷ 2 ∷ 3 ∷ []) 1 tt q)
+      go map v (AtLeaf s i) p q = absurd (p s i refl)
+      go map v (AtEmpty s) p q = absurd (q s refl)
       go map v (Stopped s j b) p q = refl
       go map v (Damaged m f) p q = refl
 
