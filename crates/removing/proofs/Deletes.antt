@@ -1,11 +1,9 @@
 -- Which plan a delete comes to: by where the walk ends.
 -- Assumes nothing.
 use mathlib.Core.Path.{◌≡◌, refl, ◌∙◌}
-use mathlib.Core.List.{List, [], ◌∷◌}
+use mathlib.Core.List.{List}
 use Prim.Native.Nat.{ℕ}
 use borrow.Author.Tests.{eq-eqb, ne_eqb}
-use types.Run.{OneOf, miss}
-use denote.Enum.Declared.{tag_of}
 use Rattle.pool.specs.Sizes.{capacity_of}
 use Rattle.pool.specs.Places.{key_at}
 use Rattle.pool.specs.declared.Size.{Size}
@@ -14,7 +12,6 @@ use Rattle.walk.specs.Walks.{walk_of}
 use Rattle.walk.specs.declared.Spot.{Spot}
 use Rattle.walk.specs.declared.End.{End}
 use Rattle.walk.specs.declared.End.TheVariants.{AtLeaf, AtEmpty, Stopped, Damaged}
-use Rattle.walk.specs.contracts.End.{the_type}
 use Rattle.plan.specs.Plans.{refused}
 use Rattle.plan.specs.declared.Effect.TheVariants.{FreesLeaf}
 use Rattle.rules.specs.Deletes.{emptied, unlink_of, miss_of, delete_at, delete_plan}
@@ -34,11 +31,11 @@ module _ {pool : List ℕ} {n k : ℕ} {e : End} (w : Walked pool n k e) where
   delete_at_lem q = rw (← w.size, ← w.walks, q)
 
   -- what a match leaves
-  pub delete_missed : OneOf (1 ∷ 2 ∷ 3 ∷ []) (tag_of the_type e) → {m : ℕ} → m ≡ miss_of e → refused m ≡ delete_plan pool k
+  pub delete_missed : ((s : Spot) (i : ℕ) → e ≡ AtLeaf s i → ⊥) → {m : ℕ} → m ≡ miss_of e → refused m ≡ delete_plan pool k
   delete_missed p q = rw q (go e p ∙ delete_at_lem refl)
     where
-      go : (e : End) → OneOf (1 ∷ 2 ∷ 3 ∷ []) (tag_of the_type e) → refused (miss_of e) ≡ delete_at pool n k e
-      go (AtLeaf s i) p = absurd (miss (1 ∷ 2 ∷ 3 ∷ []) 0 tt p)
+      go : (e : End) → ((s : Spot) (i : ℕ) → e ≡ AtLeaf s i → ⊥) → refused (miss_of e) ≡ delete_at pool n k e
+      go (AtLeaf s i) p = absurd (p s i refl)
       go (AtEmpty s) p = refl
       go (Stopped s j b) p = refl
       go (Damaged m f) p = refl
