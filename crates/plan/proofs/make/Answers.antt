@@ -11,12 +11,11 @@ returns-then-store-ne0 c =
     sym (makes_end _ _ _ _ _ (omega arith) (omega arith) (omega arith) c.store.ensures c.if-store-ne0.true) ∙ c.loop-i.invariant.2
 
 pub loop-i-preserved : goal.loop-i-preserved
-loop-i-preserved c =
-    (
-      omega arith,
-      search rules,
-      sym (makes_next _ _ _ _ _ (omega arith) (omega arith) (omega arith) c.store.ensures c.if-store-ne0.false) ∙ c.loop-i.invariant.2,
-    )
+loop-i-preserved c = (
+  omega arith,
+  search rules,
+  sym (makes_next _ _ _ _ _ (omega arith) (omega arith) (omega arith) c.store.ensures c.if-store-ne0.false) ∙ c.loop-i.invariant.2,
+)
 
 pub returns : goal.returns
 returns c = sym (makes_none _ _ _ _ _ (omega arith)) ∙ c.loop-i.invariant.2
