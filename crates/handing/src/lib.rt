@@ -90,7 +90,7 @@ pub fn lay_plan<'a>(
 )
     requires { (length words.now ≡ 21) × (length values.now ≡ 21) }
     ensures { plan.new ≡
-        words_of (record { words = words.entry.now; values = values.now; count = count; first = first; fences = fences; effect = effect }) }
+        words_of (record { words = words.now; values = values.now; count = count; first = first; fences = fences; effect = effect }) }
 {
     plan[COUNT] = count as u64;
     plan[FIRST] = first as u64;
