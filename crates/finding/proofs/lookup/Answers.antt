@@ -1,16 +1,11 @@
 -- `lookup` makes the walk along the key without keeping more of it than it answers. Assumes nothing.
-use mathlib.Core.Path.{◌≡◌, ap, ◌∙◌}
-use Prim.Native.Nat.{◌+◌, ◌-◌, ◌≤◌}
+use mathlib.Core.Path.{ap, ◌∙◌}
+use Prim.Native.Nat.{◌+◌}
 use native.Mathlib.Omega.{arith}
-use borrow.Author.Rules.{rules}
-use lib.ListN.{length}
-use Rattle.pool.specs.Sizes.{Sized}
 use Rattle.pool.specs.Places.{word_at}
-use Rattle.walk.specs.Walks.{never, walk_of}
 use Rattle.walk.specs.Ends.{Accepted}
 use Rattle.walk.proofs.Heads.{NoNode, low_no_node, unmatched, refused, accepted}
-use Rattle.finding.specs.Lookups.{found_at, lookup_of}
-use Rattle.finding.proofs.Lookups.{Comes, comes_root, comes_end, comes_damaged, comes_on, lookup_wrong, lookup_holds}
+use Rattle.finding.proofs.Lookups.{comes_root, comes_end, comes_damaged, comes_on, lookup_wrong, lookup_holds}
 use Rattle.finding.proofs.lookup.Goals as goal
 use Rattle.finding.proofs.lookup.Goals.{After-node_word-at, In-Branch}
 

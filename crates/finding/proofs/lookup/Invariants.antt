@@ -1,15 +1,9 @@
-use mathlib.Core.Path.{◌≡◌, ap, ◌∙◌}
-use Prim.Native.Nat.{◌+◌, ◌-◌, ◌≤◌}
-use native.Mathlib.Omega.{arith}
-use borrow.Author.Rules.{rules}
-use lib.ListN.{length}
+use mathlib.Core.Path.{◌≡◌}
+use Prim.Native.Nat.{◌-◌}
 use Rattle.pool.specs.Sizes.{Sized}
-use Rattle.pool.specs.Places.{word_at}
 use Rattle.walk.specs.Walks.{never, walk_of}
-use Rattle.walk.specs.Ends.{Accepted}
-use Rattle.walk.proofs.Heads.{NoNode, low_no_node, unmatched, refused, accepted}
 use Rattle.finding.specs.Lookups.{found_at, lookup_of}
-use Rattle.finding.proofs.Lookups.{Comes, comes_root, comes_end, comes_damaged, comes_on, lookup_wrong, lookup_holds}
+use Rattle.finding.proofs.Lookups.{Comes}
 use Rattle.finding.proofs.lookup.Given as goal
 
 abbrev pub invariant-loop-x : goal.invariant-loop-x

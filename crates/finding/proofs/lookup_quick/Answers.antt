@@ -1,17 +1,12 @@
 -- `lookup_quick` makes the walk that compares stored digits, as `lookup` makes the plain one. Assumes nothing.
 use mathlib.Core.Path.{◌≡◌, sym, ap, ◌∙◌}
-use Prim.Native.Nat.{◌+◌, ◌-◌, ◌≤◌}
+use Prim.Native.Nat.{◌+◌}
 use native.Mathlib.Omega.{arith}
-use borrow.Author.Rules.{rules}
-use lib.ListN.{length}
 use Rattle.digits.specs.Headers.{differs}
-use Rattle.pool.specs.Sizes.{Sized}
 use Rattle.pool.specs.Places.{word_at, header_at}
-use Rattle.walk.specs.Walks.{unlike, quick_walk}
 use Rattle.walk.specs.Ends.{Accepted}
 use Rattle.walk.proofs.Heads.{header_fits, NoNode, low_no_node, unmatched, refused, accepted}
-use Rattle.finding.specs.Lookups.{quick_at, quick_of}
-use Rattle.finding.proofs.Lookups.{Comes, comes_root, comes_below, quick_comes_end, quick_comes_damaged, quick_comes_unlike, quick_wrong, quick_holds}
+use Rattle.finding.proofs.Lookups.{comes_root, comes_below, quick_comes_end, quick_comes_damaged, quick_comes_unlike, quick_wrong, quick_holds}
 use Rattle.finding.proofs.lookup_quick.Goals as goal
 use Rattle.finding.proofs.lookup_quick.Goals.{After-differs, After-node_word-at, In-Branch}
 
