@@ -68,18 +68,18 @@ module _ (b c : ℕ) (g : Gather) (s : Census) where
       (pick_both P (eqb (digit_of s.last b) c) (pick_both P g.some (pick_both P (leb _ (first_diff g.first s.last)) refl refl) refl) refl) refl
 
   -- the code's cases, in their order
-  pub join_damaged : not s.sound ≡ true → gather (census s.last false) g.first true ≡ join_of b c g s
+  pub join_damaged : s.sound ≡ false → gather (census s.last false) g.first true ≡ join_of b c g s
   unfolding join_of
-  join_damaged h = rw (not-true s.sound h)
+  join_damaged h = rw h
 
-  module _ (sound : not s.sound ≡ false) {d : ℕ} (digit : d ≡ digit_of s.last b) where
+  module _ (sound : s.sound ≡ true) {d : ℕ} (digit : d ≡ digit_of s.last b) where
     pub join_turned : (d ≡ c → ⊥) → gather (census s.last false) g.first true ≡ join_of b c g s
     unfolding join_of
-    join_turned h = rw (not-false s.sound sound, ← digit, ne_eqb d c h)
+    join_turned h = rw (sound, ← digit, ne_eqb d c h)
 
-    pub join_first : d ≡ c → not g.some ≡ true → gather (census s.last true) s.last true ≡ join_of b c g s
+    pub join_first : d ≡ c → g.some ≡ false → gather (census s.last true) s.last true ≡ join_of b c g s
     unfolding join_of
-    join_first h e = rw (not-false s.sound sound, ← digit, eq-eqb d c h, not-true g.some e)
+    join_first h e = rw (sound, ← digit, eq-eqb d c h, e)
 
 -- what is joined under a test is sound as the test says
 pub join_tested : (last first : ℕ) (t : Bool)
