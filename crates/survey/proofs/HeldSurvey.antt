@@ -19,7 +19,7 @@ use Rattle.pool.specs.Sizes.{bytes_of}
 use Rattle.pool.specs.Places.{word_at, header_at, child_at}
 use Rattle.pool.specs.Refs.{ref_of}
 use Rattle.pool.specs.declared.Ref.{Ref}
-use Rattle.tree.specs.Tree.{Tree, empty, leaf, node, upd, sum, one, mult, Filled, Agree, Good}
+use Rattle.tree.specs.Tree.{Tree, empty, leaf, node, upd, one, mult, Filled, Agree, Good}
 use Rattle.tree.specs.Near.{filled}
 use Rattle.tree.specs.Shape.{Holds}
 use Rattle.tree.proofs.Basics.{Same?, same, other, same?, less?, last?, true_not_false, upd_at, upd_off, one_at, sum_has, sum_two}

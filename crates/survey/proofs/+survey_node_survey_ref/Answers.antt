@@ -1,6 +1,6 @@
 -- `survey_ref` and `survey_node` call each other: with each node the walk depth rises. Before each child `survey_node` stands where `Joined` says.
 -- Both rest on the laws of turns. Assumes nothing.
-use mathlib.Core.Path.{◌≡◌, refl}
+use mathlib.Core.Path.{refl}
 use native.Mathlib.Omega.{arith}
 use lib.ListN.{length-set}
 use Rattle.walk.specs.Walks.{is_child}

@@ -1,6 +1,5 @@
 -- `join` goes by the definition's tests, in their order. Assumes nothing.
 use mathlib.Core.Path.{◌∙◌}
-use borrow.Author.Rules.{rules}
 use borrow.Author.Tests.{eq-eqb}
 use Rattle.survey.specs.Surveys.{join_of}
 use Rattle.survey.proofs.Turns.{join_damaged, join_turned, join_first, join_tested}

@@ -1,5 +1,4 @@
 -- `judge_header` compares the word with the header that a key below the node has. Assumes nothing.
-use borrow.Author.Rules.{rules}
 use Rattle.survey.proofs.Turns.{header_judged}
 use Rattle.survey.proofs.judge_header.Goals as goal
 

@@ -1,6 +1,5 @@
 -- `meet_leaf` marks a leaf that was not met before. Assumes nothing.
 use mathlib.Core.Path.{refl}
-use borrow.Author.Rules.{rules}
 use borrow.Author.Tests.{eq-eqb}
 use Rattle.survey.specs.Surveys.{leaf_met}
 use Rattle.survey.proofs.Turns.{alike_same, leaf_again}

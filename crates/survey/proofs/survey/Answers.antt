@@ -1,26 +1,10 @@
 -- `survey` does with the root what its reference says. Assumes nothing.
-use mathlib.Core.Path.{refl, ap}
+use mathlib.Core.Path.{refl}
 use mathlib.Core.Bool.{false}
-use native.Mathlib.Omega.{arith}
-use borrow.Author.Rules.{rules}
-use lib.ListN.{length, length-replicate}
 use Rattle.pool.specs.Places.{word_at}
 use Rattle.survey.specs.Surveys.{census}
 use Rattle.survey.proofs.Turns.{ref_leaf, ref_node, ref_bad, found, found_none}
 use Rattle.survey.proofs.survey.Goals as goal
-
-pub leaf_key-requires : goal.leaf_key-requires
-leaf_key-requires c =
-    (c.requires.0, rw c.in-Leaf.is at c.reference.ensures.1)
-
-pub meet_leaf-requires : goal.meet_leaf-requires
-meet_leaf-requires c =
-    let h = rw c.in-Leaf.is at c.reference.ensures.1 in
-    omega (arith, simp length-replicate at (ap length c.requires.1))
-
-pub survey_node-requires : goal.survey_node-requires
-survey_node-requires c =
-    (c.requires.0, simp length-replicate at (ap length c.requires.1), omega arith, rw c.in-Node.is at c.reference.ensures.1)
 
 pub returns-in-Empty : goal.returns-in-Empty
 returns-in-Empty c = found_none _ _ c.requires.1 c.reference.ensures.0 c.in-Empty.is
