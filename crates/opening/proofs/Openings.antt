@@ -8,7 +8,7 @@ use native.Mathlib.Decide.{dec_lt}
 use native.Mathlib.Nat.{le_of_suc-le-suc, not-suc-le-zero}
 use native.Mathlib.Numerals.{add-one}
 use native.Mathlib.Omega.{arith}
-use borrow.Author.Tests.{eq-eqb, ne_eqb, lt-ltb, le-ltb, not-true, not-false}
+use borrow.Author.Tests.{eq-eqb, ne_eqb, lt-ltb, le-ltb}
 use lib.Dec.{eqb}
 use lib.ListN.{length, get_or, set, take, drop, replicate, get_or-map}
 use Rattle.digits.specs.Choice.{pick}
@@ -109,20 +109,20 @@ at_most_one_store pool n w j = go (head_of w (header_at pool n j))
     go Unaccepted = omega arith
 
 module _ (n : ℕ) (marks : List ℕ) (j : ℕ) (pool : List ℕ) {t : Bool} (is : t ≡ stale pool n marks j) where
-  pub mend_unneeded : not t ≡ true → mends pool 0 ≡ mend_node n marks j (mends pool 0)
-  mend_unneeded h = rw (← is, not-true t h)
+  pub mend_unneeded : t ≡ false → mends pool 0 ≡ mend_node n marks j (mends pool 0)
+  mend_unneeded h = rw (← is, h)
 
-  module _ (needed : not t ≡ false) {w : ℕ} (depth : w ≡ depth_marked marks n j) where
+  module _ (needed : t ≡ true) {w : ℕ} (depth : w ≡ depth_marked marks n j) where
     pub mend_undone : [] ≡ mend_of pool n w j → mends pool 0 ≡ mend_node n marks j (mends pool 0)
     unfolding made
-    mend_undone e = rw (← is, not-false t needed, ← depth, ← e)
+    mend_undone e = rw (← is, needed, ← depth, ← e)
 
     pub mend_done : {x v r : ℕ} {l : List ℕ} → record { word = node_word n j; value = v } ∷ [] ≡ mend_of pool n w j → node_word n j < length pool
         → x ≡ node_word n j → ran r l ≡ makes_of 1 (stores_in (x ∷ []) (v ∷ [])) pool → mends l r ≡ mend_node n marks j (mends pool 0)
     unfolding stores_in made Words
     mend_done {v = v} e h y a =
         let s : Store = record { word = node_word n j; value = v } in
-        rw (← is, not-false t needed, ← depth, ← e)
+        rw (← is, needed, ← depth, ← e)
         (ap (λ (z : Ran). mends z.left z.steps) (a ∙ rw y (makes_all 1 (s ∷ []) pool (omega arith) (h, tt))))
 
 -- ---- all of them
@@ -180,22 +180,22 @@ module _ (pool : List ℕ) (n : ℕ) {m : List ℕ} {r : Bool} (told : Found m r
   judged : {t : Bool} → r ≡ t → (survey_of pool n).census.sound ≡ t
   judged e = sym told.judged ∙ e
 
-  pub plan_refused : not r ≡ true → planned_of one_group (refused 2) ≡ planned_of one_group (open_judged pool n (survey_of pool n))
-  plan_refused h = rw (judged (not-true r h))
+  pub plan_refused : r ≡ false → planned_of one_group (refused 2) ≡ planned_of one_group (open_judged pool n (survey_of pool n))
+  plan_refused h = rw (judged h)
 
-  pub plan_first : {p : Plan} → not r ≡ false → p ≡ plan_of one_group (mend_first pool n m) Nothing
+  pub plan_first : {p : Plan} → r ≡ true → p ≡ plan_of one_group (mend_first pool n m) Nothing
       → record { number = 0; plan = p } ≡ planned_of one_group (open_judged pool n (survey_of pool n))
   plan_first h q =
-      let e = judged (not-false r h) in
+      let e = judged h in
       rw (e, q, told.marked e)
 
-  pub open_damaged : (bytes : List ℕ) {m' : List ℕ} → not r ≡ true → m' ≡ replicate (length m) 0 → length m ≡ length bytes
+  pub open_damaged : (bytes : List ℕ) {m' : List ℕ} → r ≡ false → m' ≡ replicate (length m) 0 → length m ≡ length bytes
       → left (opened 2 0 0) pool m' ≡ left_judged pool bytes n (survey_of pool n)
-  open_damaged bytes h q l = rw (judged (not-true r h), q, l)
+  open_damaged bytes h q l = rw (judged h, q, l)
 
-  pub open_restored : (bytes : List ℕ) {x : Left} → not r ≡ false → x ≡ restored n m pool → x ≡ left_judged pool bytes n (survey_of pool n)
+  pub open_restored : (bytes : List ℕ) {x : Left} → r ≡ true → x ≡ restored n m pool → x ≡ left_judged pool bytes n (survey_of pool n)
   open_restored bytes h q =
-      let e = judged (not-false r h) in
+      let e = judged h in
       rw (e, q, told.marked e)
 
 -- ---- the sizes, by what `capacity` told

@@ -1,0 +1,14 @@
+use mathlib.Core.Path.{◌≡◌, refl, ◌∙◌}
+use Prim.Native.Nat.{◌-◌, ◌≤◌}
+use native.Mathlib.Omega.{arith}
+use borrow.Author.Rules.{rules}
+use lib.ListN.{length, length-set}
+use Rattle.opening.specs.Openings.{reached}
+use Rattle.opening.proofs.Openings.{changed, changed_next, changed_all}
+use Rattle.opening.proofs.mending.flatten.Given as goal
+
+abbrev pub invariant-loop-i : goal.invariant-loop-i
+invariant-loop-i l = (l.i ≤ length l.initial.map) × (length l.map ≡ length l.initial.map) × (l.map ≡ changed reached l.i l.initial.map)
+
+abbrev pub decreases-loop-i : goal.decreases-loop-i
+decreases-loop-i l = length l.initial.map - l.i
