@@ -11,7 +11,7 @@ use Rattle.writing.specs.Calls.{Left as Called}
 use Rattle.opening.specs.Openings.{Left, open_plan, open_of, open_steps}
 use Rattle.opening.proofs.HeldOpens.{open_is, all_mended, none_left, end}
 use Rattle.demands.specs.Tables.{Table}
-use Rattle.demands.specs.Demand3.{ADR, EADR, planned, whole, by_plan, effect, Reach, fresh, existing, done, stepped, refused, cut, lost, reopening, opened, Covers}
+use Rattle.demands.specs.Demand3.{ADR, EADR, planned, effect, Reach, fresh, existing, done, stepped, refused, cut, lost, reopening, opened, Covers}
 use Rattle.demands.proofs.States.{State}
 use Rattle.demands.proofs.Cuts.{in_order_groups}
 use Rattle.demands.proofs.Operations.{whole_number, whole_refused, by_plan_whole}

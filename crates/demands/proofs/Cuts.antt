@@ -10,7 +10,7 @@ use native.Mathlib.Omega.{arith}
 use borrow.Author.Tests.{eq-eqb, ne_eqb, lt-ltb}
 use lib.Dec.{eqb}
 use lib.ListN.{length, take, drop, take-append-drop}
-use lib.Seq.{take_all, take-take}
+use lib.Seq.{take-take}
 use Rattle.tree.specs.Stores.{Store, Part, done, made as kept, lost}
 use Rattle.tree.proofs.Basics.{less?}
 use Rattle.tree.proofs.Stores.{part_all, part_none, part_take, part_nil, part_one}

@@ -15,7 +15,7 @@ use Rattle.pool.specs.declared.Size.{Size}
 use Rattle.pool.specs.declared.Size.TheVariants.{Holds, Wrong}
 use Rattle.tree.proofs.Basics.{Same?, same, other, same?}
 use Rattle.tree.proofs.Stores.{Words}
-use Rattle.plan.specs.Plans.{all_but_last, the_switch, one_group, adr, known, fences_of, fenced, After, after, Decided, store_of, step_of, decided, refused, planned_of, decided_for, planned_for}
+use Rattle.plan.specs.Plans.{all_but_last, the_switch, one_group, adr, fences_of, fenced, After, after, Decided, store_of, step_of, decided, refused, planned_of, decided_for, planned_for}
 use Rattle.finishing.specs.Finishes.{stores_of, finish_of}
 use Rattle.plan.specs.declared.Plan.{Plan}
 use Rattle.plan.specs.declared.Planned.{Planned}

@@ -1,7 +1,6 @@
 -- Demand 3 holds, for stores that reach memory in order and for any cut that keeps the store that counts in its place.
 -- Assumes nothing.
 use mathlib.Core.Path.{◌≡◌, refl, ap, ◌∙◌, subst}
-use mathlib.Core.Bool.{Bool}
 use mathlib.Core.Option.{Option, none, some}
 use mathlib.Core.List.{List, ◌∷◌}
 use Prim.Native.Nat.{ℕ, ◌*◌, ◌-◌, ◌<◌}

@@ -5,12 +5,11 @@ use mathlib.Core.Bool.{Bool, true, false}
 use mathlib.Core.Logic.{◌≢◌, inl, inr}
 use mathlib.Core.Option.{none, some}
 use mathlib.Core.List.{List, [], ◌∷◌, ◌++◌}
-use Prim.Native.Nat.{ℕ, zero, suc, ◌+◌, ◌-◌, ◌<◌}
+use Prim.Native.Nat.{ℕ, ◌+◌, ◌-◌, ◌<◌}
 use native.Mathlib.Omega.{arith}
 use borrow.Author.Tests.{eq-eqb, ne_eqb}
-use lib.Dec.{eqb}
 use lib.ListN.{length, take, length-append}
-use lib.Seq.{take-append-le, take_all, take-take}
+use lib.Seq.{take-append-le, take_all}
 use Rattle.digits.specs.Choice.{pick}
 use Rattle.pool.specs.Sizes.{bytes_of}
 use Rattle.pool.specs.declared.Size.{Size}
@@ -19,7 +18,7 @@ use Rattle.tree.specs.Tree.{Tree, mult, find}
 use Rattle.tree.specs.Changes.{occurs, Adds, Removes}
 use Rattle.tree.specs.Stores.{Store, run, Part, done, made as kept, lost}
 use Rattle.tree.proofs.Basics.{Same?, same, other, same?}
-use Rattle.tree.proofs.Stores.{Words, words_part, part_all, part_none, part_take}
+use Rattle.tree.proofs.Stores.{Words, words_part, part_all, part_none}
 use Rattle.layout.specs.Layout.{Held}
 use Rattle.layout.specs.Switches.{Switches}
 use Rattle.plan.specs.Plans.{made, Decided, decided, refused}

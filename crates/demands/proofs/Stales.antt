@@ -33,7 +33,7 @@ use Rattle.writing.specs.Calls.{Left, format_of, format_in}
 use Rattle.opening.specs.Openings.{open_of, open_steps}
 use Rattle.opening.proofs.HeldOpens.{steps_pool, steps_stale}
 use Rattle.demands.specs.Tables.{Table}
-use Rattle.demands.specs.Demand3.{Generation, Op, planned, whole, AtMostOneStale}
+use Rattle.demands.specs.Demand3.{Generation, Op, planned, AtMostOneStale}
 use Rattle.demands.specs.Demand3.{Reach, fresh, existing, done, stepped, refused, cut, lost, reopening, opened}
 use Rattle.demands.proofs.States.{State, fits, stored}
 use Rattle.demands.proofs.Operations.{part_first, part_both, Turns, turns, cut_case}

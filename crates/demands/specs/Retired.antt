@@ -2,7 +2,7 @@
 -- deleted and opened. .. Refusals: 7, after 1 and before 2."
 -- Assumes nothing.
 use Rattle.std.specs.Prelude.{Bool, List, [], ◌∷◌, ℕ, eqb, replicate}
-use Rattle.finding.specs.Lookups.{Answer, lookup_of}
+use Rattle.finding.specs.Lookups.{lookup_of}
 use Rattle.listing.specs.Listings.{Shown, list_of}
 use Rattle.rules.specs.Puts.{put_plan}
 use Rattle.writing.specs.Calls.{Left, put_of, delete_of}
