@@ -1,11 +1,11 @@
 #!/bin/sh
 # Times the library beside plain C, JudyL, LMDB and BTreeMap in one run, and writes docs/BENCHMARKS.md and docs/bench.svg.
-# WORT_LIB_DIR says where libwort.a stands (target/staticlib), BENCH_DOCS where the pages go (docs).
+# WORT_LIB_DIR says where libwort.a stands (crates/wort/out), BENCH_DOCS where the pages go (docs).
 set -eu
 root=$(cd "$(dirname "$0")/.." && pwd)
-lib=${WORT_LIB_DIR:-$root/target/staticlib}
+lib=${WORT_LIB_DIR:-$root/crates/wort/out}
 docs=${BENCH_DOCS:-$root/docs}
-work=$root/target/bench
+work=$root/build/bench
 
 fail() {
     echo "bench: $1" >&2
@@ -31,7 +31,7 @@ if ! has_header Judy.h || ! has_header lmdb.h; then
 fi
 
 if [ ! -f "$lib/libwort.a" ]; then
-    (cd "$root" && tools/pinned.sh && rt staticlib wort >/dev/null) || fail "libwort.a could not be built: see 'rt staticlib wort'."
+    ("$root/tools/pinned.sh" && cd "$root/crates/wort" && rt lib >/dev/null) || fail "libwort.a could not be built: see 'rt lib' in crates/wort."
 fi
 [ -f "$lib/libwort.a" ] || fail "libwort.a is not in $lib."
 

@@ -1,5 +1,5 @@
 /* A put that is durable when it returns, and the recovery at start, on each platform generation. A put is cut on purpose, and recovered from.
- * rt staticlib wort && gcc -Iinclude examples/durable.c target/staticlib/libwort.a -o target/durable && target/durable */
+ * (cd crates/wort && rt lib) && mkdir -p build && gcc -Iinclude examples/durable.c crates/wort/out/libwort.a -o build/durable && build/durable */
 #include "wort.h"
 #include <stdio.h>
 

@@ -1,5 +1,5 @@
 /* Formats a pool of 16 places, puts three names, looks one up, lists all.
- * rt staticlib wort && gcc -Iinclude examples/hello.c target/staticlib/libwort.a -o target/hello && target/hello */
+ * (cd crates/wort && rt lib) && mkdir -p build && gcc -Iinclude examples/hello.c crates/wort/out/libwort.a -o build/hello && build/hello */
 #include "wort.h"
 #include <stdio.h>
 

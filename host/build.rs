@@ -22,6 +22,6 @@ fn main() {
 fn lib_dir() -> PathBuf {
     match env::var_os("WORT_LIB_DIR") {
         Some(dir) => PathBuf::from(dir),
-        None => PathBuf::from(env::var_os("CARGO_MANIFEST_DIR").expect("cargo sets it")).join("../target/staticlib"),
+        None => PathBuf::from(env::var_os("CARGO_MANIFEST_DIR").expect("cargo sets it")).join("../crates/wort/out"),
     }
 }

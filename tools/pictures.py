@@ -4,7 +4,7 @@
 Usage: pictures.py [--check]      --check makes nothing, and fails if what is kept differs from what the library does.
 
 Every word, answer and listing shown is what the library's calls left and said. WORT_LIB_DIR says where libwort.a stands
-(target/staticlib).
+(crates/wort/out).
 """
 
 import itertools

@@ -1,5 +1,5 @@
 #!/usr/bin/env python3
-"""The stack of each call of include/wort.h, as compiled for x86-64: read from the instructions in target/staticlib/libwort.a.
+"""The stack of each call of include/wort.h, as compiled for x86-64: read from the instructions in crates/wort/out/libwort.a.
 
 Usage: stack.py [--lib ARCHIVE]                      prints a table
        stack.py [--lib ARCHIVE] --check FILE         fails if the table in a document is another
@@ -164,7 +164,7 @@ def too_much(stack, limit, calls):
 
 def main():
     words = argparse.ArgumentParser()
-    words.add_argument("--lib", default=ROOT / "target/staticlib/libwort.a")
+    words.add_argument("--lib", default=ROOT / "crates/wort/out/libwort.a")
     words.add_argument("--check")
     words.add_argument("--below", nargs="+")
     words = words.parse_args()

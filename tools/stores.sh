@@ -1,7 +1,7 @@
 #!/usr/bin/env bash
 # Stores at the machine: whole calls under single steps of the processor, by the program host/src/bin/stores.rs. Where this processor
 # has no such steps of x86-64, a whole emulated machine has: it runs the program and nothing else. Without either this fails.
-# Usage: stores.sh               the library, target/staticlib/libwort.a
+# Usage: stores.sh               the library, crates/wort/out/libwort.a
 #        stores.sh --can-fail    plain C in its place: as it has to be, and with mistakes that have to be found
 set -euo pipefail
 cd "$(dirname "$0")/.."
@@ -105,5 +105,5 @@ case ${1-} in
     is_refused WIDE "one instruction changes 2 words"
     is_refused REPEATED "is not stored by an 8-byte move"
     ;;
-*) passes "$PWD/target/staticlib" 12 ;;
+*) passes "$PWD/crates/wort/out" 12 ;;
 esac

@@ -7,7 +7,7 @@ import subprocess
 import sys
 
 ROOT = pathlib.Path(__file__).resolve().parent.parent
-LIB_DIR = pathlib.Path(os.environ.get("WORT_LIB_DIR", ROOT / "target" / "staticlib"))
+LIB_DIR = pathlib.Path(os.environ.get("WORT_LIB_DIR", ROOT / "crates" / "wort" / "out"))
 # of a plan's words: the count, the stores of the first group, the fences, the first word number, and how many
 COUNT, FIRST, FENCES, PLACES, ROOM = 0, 1, 2, 7, 23
 VALUES = PLACES + ROOM
@@ -20,7 +20,7 @@ def load(directory):
     """libwort.a as a shared object, loaded."""
     archive = LIB_DIR / "libwort.a"
     if not archive.exists():
-        sys.exit(f"libwort.a is not in {LIB_DIR}; build it with: rt staticlib wort")
+        sys.exit(f"libwort.a is not in {LIB_DIR}; build it with: (cd crates/wort && rt lib)")
     made = pathlib.Path(directory) / "libwort.so"
     whole = ["-Wl,--whole-archive", str(archive), "-Wl,--no-whole-archive"]
     if subprocess.run(["gcc", "-shared", "-o", str(made), *whole]).returncode:

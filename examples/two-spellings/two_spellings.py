@@ -9,7 +9,7 @@ own. They are no part of the proved library, which is handed name numbers and ne
 Usage: two_spellings.py [--without-normaliser]
 
 --without-normaliser shows how a listed file could once not be opened: spellings miss, and the status is 1.
-WORT_LIB_DIR says where libwort.a stands (target/staticlib beside this repository's other parts).
+WORT_LIB_DIR says where libwort.a stands (crates/wort/out in this repository).
 """
 
 import ctypes
@@ -22,7 +22,7 @@ import tempfile
 import unicodedata
 
 HERE = pathlib.Path(__file__).resolve().parent
-LIB_DIR = pathlib.Path(os.environ.get("WORT_LIB_DIR", HERE.parent.parent / "target" / "staticlib"))
+LIB_DIR = pathlib.Path(os.environ.get("WORT_LIB_DIR", HERE.parent.parent / "crates" / "wort" / "out"))
 
 PLACES = 64
 DONE, ABSENT = 0, 3
@@ -90,7 +90,7 @@ def shared_object(directory):
     """libwort.a as a shared object, which ctypes can load."""
     archive = LIB_DIR / "libwort.a"
     if not archive.exists():
-        sys.exit(f"libwort.a is not in {LIB_DIR}; build it with: rt staticlib wort")
+        sys.exit(f"libwort.a is not in {LIB_DIR}; build it with: (cd crates/wort && rt lib)")
     made = pathlib.Path(directory) / "libwort.so"
     whole = ["-Wl,--whole-archive", str(archive), "-Wl,--no-whole-archive"]
     if subprocess.run(["gcc", "-shared", "-o", str(made), *whole]).returncode:

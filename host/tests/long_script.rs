@@ -44,8 +44,8 @@ fn mapped(process: u32) -> u64 {
 
 /// What the program prints for what `feed` writes to it.
 fn printed(feed: impl FnOnce(&mut ChildStdin) + Send + 'static) -> Vec<u8> {
-    let program = Path::new(env!("CARGO_MANIFEST_DIR")).join("../target/bin/names");
-    assert!(program.is_file(), "{} is not there: 'rt check names' builds it", program.display());
+    let program = Path::new(env!("CARGO_MANIFEST_DIR")).join("../crates/names/out/names");
+    assert!(program.is_file(), "{} is not there: 'rt ci' builds it, and so does 'rt run' in crates/names", program.display());
     let mut child = Command::new(X86_64)
         .arg(program)
         .stdin(Stdio::piped())
