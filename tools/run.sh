@@ -10,9 +10,10 @@ if ! [ -f "$script" ]; then
 fi
 log=$(mktemp)
 trap 'rm -f "$log"' EXIT
-if ! rt check names >"$log" 2>&1; then
+# What builds the program also runs it: on no input, to which it answers nothing.
+if ! (cd crates/names && rt run </dev/null) >"$log" 2>&1; then
     cat "$log" >&2
     echo "The program is not proved, so it is not run." >&2
     exit 1
 fi
-tools/x86-64.sh target/bin/names <"$script"
+tools/x86-64.sh crates/names/out/names <"$script"

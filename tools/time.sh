@@ -1,24 +1,25 @@
 #!/usr/bin/env bash
-# What the last run of the test command spent, in whole seconds: each part, then each crate and each edit, slowest first, and what a crate costs with its edits.
+# What the last run of the test command spent, in whole seconds: each part; of the prover's part, at which second each crate was done; and how many crates
+# and edits it took from earlier runs of the same files. The prover proves crates side by side and prints no times: what it was spent on cannot be told.
 set -eu
 cd "$(dirname "$0")/.."
-log=build/ci.log
-if ! [ -s "$log" ]; then
+times=build/ci.times
+if ! [ -s "$times" ]; then
     echo "There is no run to look at: 'make test' makes one." >&2
     exit 1
 fi
 
-# Lines 'seconds TAB kind TAB name', of the prover's own lines.
-spent() {
-    sed -nE 's/^rt: (\w+) proved \(([0-9]+) s\)$/\2\tcrate\t\1/p
-             s/^rt: (\w+) (ran|proved, and its run).* \(([0-9]+) s\)$/\3\trun\t\1/p
-             s/^rt: must-fail (\w+)\/(\w+): .*[ (]([0-9]+) s\)$/\3\tedit\t\1\/\2/p' "$log"
+# Lines 'second TAB what happened', of the prover's own lines.
+happened() {
+    sed -nE 's/^([0-9]+\t)rt: (\w+) (proved|NOT PROVED.*)$/\1\2 \3/p
+             s/^([0-9]+\t)rt: (\w+): its tests are (proved|NOT PROVED)$/\1\2, its tests: \3/p
+             s/^([0-9]+\t)rt: (\w+) is kept: .*$/\1\2 kept from an earlier run/p
+             s/^([0-9]+\t)rt: (\w+) ran(.*), and wrote .*$/\1\2 ran\3/p' "$times"
 }
 
 [ ! -s build/parts ] || { echo "== parts of the test command"; cat build/parts; }
-echo "== crates, edits and programs, slowest first"
-spent | sort -t "$(printf '\t')" -k1,1nr -k3,3
-echo "== crates with their edits, dearest first: the crate, its edits, together"
-spent | awk -F '\t' '$2 == "crate" { own[$3] = $1 } $2 == "edit" { split($3, n, "/"); edits[n[1]] += $1 }
-    END { for (c in own) printf "%d\t%d\t%d\t%s\n", own[c], edits[c], own[c] + edits[c], c }' | sort -k3,3nr -k4,4
-spent | awk -F '\t' '{ sum[$2] += $1 } END { printf "all: crates %d s, edits %d s of one processor\n", sum["crate"], sum["edit"] }'
+echo "== crates and programs, each with the second of the prover's part at which it was done"
+happened
+# The edits' lines come together, behind the last crate.
+sed -nE 's/^[0-9]+\trt: ok; (.*)$/all: \1/p' "$times"
+tail -n 1 "$times" | sed 's/\t.*/ s/; s/^/the prover: /'
