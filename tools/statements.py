@@ -19,7 +19,7 @@ SUMS = ROOT / "tools" / "statements.sums"
 OTHERS = {
     "crates/finding/specs/Lookups.antt": {"Finds"},
     "crates/listing/specs/Rows.antt": {"Word", "Words"},
-    "crates/survey/specs/Soundness.antt": {"slotOf", "module", "Sound", "Stale", "Straight", "InUse"},
+    "crates/survey/specs/Soundness.antt": {"slot_of", "module", "Sound", "Stale", "Straight", "InUse"},
     "crates/tree/specs/Listing.antt": {"module"},
     "crates/tree/specs/Stores.antt": {"Part"},
 }
