@@ -34,27 +34,32 @@ import sys
 ROOT = pathlib.Path(__file__).resolve().parent.parent
 DOCUMENTS = [ROOT / "README.md", *sorted((ROOT / "docs").glob("*.md")), ROOT / "host" / "README.md"]
 SOURCES = {".antt", ".rt", ".rs", ".c", ".h", ".py", ".sh"}
-MADE = ("target/", "build/", "host/target/")  # what commands make
+MADE = ("build/", "crates/wort/out/", "crates/names/out/", "host/target/")  # what commands make
 COMMANDS = {"rt", "gcc", "cargo", "python3", "make"}
 OTHERS = set(
     "let else match requires ensures use ghost pub mod struct enum array u64 u8 usize leading_zeros specs src proofs declared"
     " unicodedata NFC BTreeMap LMDB JudyL NOSYNC WRITEMAP libwort passed failed logic proved number stdin stdout SEED COUNT MOST"
-    " WORT_LIB_DIR WORT_LIB_NAME FILE DIR release bin long exhaust staticlib can-fail by-plan memcpy memset"
-    " length take drop getD set replicate".split()  # the toolchain's lists
+    " WORT_LIB_DIR WORT_LIB_NAME FILE DIR release bin long exhaust can-fail by-plan memcpy memset"
+    " length take drop get_or set replicate".split()  # the toolchain's lists
 )
 NAME = re.compile(r"[^\W\d][\w′₀-₉'≤≥<>≡-]*", re.U)
 DEFINED = re.compile(r"^\s*(?:\|\s*)?(?:(?:unfoldable|abbrev|pub|record|data|module|mod)\s+)*([^\W\d][^\s:(){}.;,]*)\s*(?:\{[^}]*\}\s*)*(?:[:({]|where)", re.U)
 DECLARED = re.compile(r"\b(?:fn|struct|enum|const|type|mod)\s+(\w+)|^\s*(?:pub\s+)?(\w+)(?::|\(|,|\s*\{)", re.M)
-USED = re.compile(r"^(?:ghost )?use Rattle·(\w+?)(?:·specs)?\.specs\.(\w+)", re.M)
+USED = re.compile(r"^(?:ghost )?use Rattle\.(\w+)\.specs\.(\w+)", re.M)
 FOLDERS = {"definitions": "specs", "code": "src", "proofs": "proofs"}
 COUNTED = {"lines", "files", "edits", *FOLDERS}
 COUNT = re.compile(r"`([^`\s]+)`: ([\d,]+) (lines|files|edits)")
 
 
+def is_made(file):
+    """Whether commands made a file, and the repository does not have it."""
+    return bool({"target", "build", "out", ".git"} & set(file.relative_to(ROOT).parts))
+
+
 def sources(path):
     """The source files at a path, a file or a folder."""
     found = [path] if path.is_file() else sorted(path.rglob("*"))
-    return [f for f in found if f.suffix in SOURCES and f.name != "Lib.antt" and "target" not in f.relative_to(ROOT).parts]
+    return [f for f in found if f.suffix in SOURCES and f.name != "Lib.antt" and not is_made(f)]
 
 
 def counts(line):
@@ -64,7 +69,7 @@ def counts(line):
 
 def counted(path, what):
     if what == "edits":
-        return len(list(path.rglob("*.edit")))
+        return sum(not is_made(f) for f in path.rglob("*.edit"))
     if what == "files":
         return len(sources(path))
     path = path / FOLDERS.get(what, "")
@@ -74,6 +79,8 @@ def counted(path, what):
 def known_names():
     names = set(OTHERS)
     for f in (ROOT / "crates").rglob("*"):
+        if is_made(f):
+            continue
         if f.suffix == ".antt":
             names.update(m.group(1) for line in f.read_text().splitlines() if (m := DEFINED.match(line)))
             names.add(f.stem)
@@ -91,7 +98,7 @@ def definitions():
     crates = ROOT / "crates"
 
     def uses(file):
-        return [crates / c / "specs" / f"{m}.antt" for c, m in USED.findall(file.read_text()) if m != "declared"]
+        return [crates / c / "specs" / f"{m}.antt" for c, m in USED.findall(file.read_text()) if m != "declared" and (crates / c).is_dir()]
 
     everything = {f for f in crates.glob("*/specs/*.antt") if f.name != "Lib.antt"}
     reached, ahead = set(), [f for f in everything if f.parent.parent.name in ("demands", "wort") and f.name != "Mistakes.antt"]
@@ -109,7 +116,7 @@ class Check:
         self.write, self.faults, self.seen = write, [], 0
         self.rows = {}  # the paths that stand in tables of counts, by heading
         self.names = known_names()
-        self.files = {f.name for f in ROOT.rglob("*") if ".git" not in f.parts and "target" not in f.relative_to(ROOT).parts}
+        self.files = {f.name for f in ROOT.rglob("*") if not is_made(f)}
         self.targets = set(re.findall(r"^(\w+):", (ROOT / "Makefile").read_text(), re.M))
 
     def fault(self, place, text):
@@ -141,9 +148,9 @@ class Check:
     def token(self, document, place, text):
         self.seen += 1
         words = text.split()
-        if not words or text.startswith(MADE):
+        if not words or f"{text}/".startswith(MADE):
             return
-        if words[0] in COMMANDS or (len(words) > 1 and (ROOT / words[0]).is_file()):
+        if words[0] in COMMANDS or (len(words) > 1 and self.resolved(document, words[0])):
             if not self.command(words):
                 self.fault(place, f"`{text}` is no command of this repository")
             return
