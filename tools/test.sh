@@ -30,7 +30,7 @@ status=0
 rt ci 2>&1 | tee build/ci.log | timed || status=$?
 if [ "$status" != 0 ]; then
     echo "The prover refused something: see above." >&2
-    exit 1
+    exit "$status"
 fi
 tools/passed.sh build/ci.log
 part "closing lines of the prover that are refused"
