@@ -1,10 +1,8 @@
-use mathlib.Core.Path.{◌≡◌, refl, ◌∙◌}
+use mathlib.Core.Path.{◌≡◌}
 use Prim.Native.Nat.{◌-◌, ◌≤◌}
-use native.Mathlib.Omega.{arith}
-use borrow.Author.Rules.{rules}
-use lib.ListN.{length, length-set}
+use lib.ListN.{length}
 use Rattle.opening.specs.Openings.{reached}
-use Rattle.opening.proofs.Openings.{changed, changed_next, changed_all}
+use Rattle.opening.proofs.Openings.{changed}
 use Rattle.opening.proofs.mending.flatten.Given as goal
 
 abbrev pub invariant-loop-i : goal.invariant-loop-i

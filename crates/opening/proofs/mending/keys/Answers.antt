@@ -1,19 +1,13 @@
 -- `keys` adds up bytes that are 0 or 1, and so counts those that are not 0. Assumes nothing.
-use mathlib.Core.Path.{◌≡◌}
-use Prim.Native.Nat.{◌-◌, ◌≤◌}
 use native.Mathlib.Omega.{arith}
 use borrow.Author.Rules.{rules}
 use Rattle.digits.specs.Loops.{tally}
-use Rattle.opening.specs.Openings.{keys_of}
 use Rattle.opening.proofs.Openings.{byte_counted, few_keys}
 use Rattle.opening.proofs.mending.keys.Goals as goal
 
 pub loop-i-init : goal.loop-i-init
 unfolding tally
 loop-i-init c = search rules
-
-pub overflow_cast-count : goal.overflow_cast-count
-overflow_cast-count c = omega (arith, c.requires.1 c.loop-i.i)
 
 pub overflow_add-count : goal.overflow_add-count
 overflow_add-count c =
@@ -25,8 +19,3 @@ loop-i-preserved c = (
   byte_counted c.args.map.now c.loop-i.i
       (c.requires.1 c.loop-i.i) c.loop-i.invariant.1,
 )
-
-pub returns : goal.returns
-returns c =
-    let e : c.loop-i.i ≡ c.args.n = omega arith in
-    rw e at c.loop-i.invariant.1

@@ -1,10 +1,6 @@
 use mathlib.Core.Path.{◌≡◌}
 use Prim.Native.Nat.{◌-◌, ◌≤◌}
-use native.Mathlib.Omega.{arith}
-use borrow.Author.Rules.{rules}
-use Rattle.digits.specs.Loops.{tally}
 use Rattle.opening.specs.Openings.{keys_of}
-use Rattle.opening.proofs.Openings.{byte_counted, few_keys}
 use Rattle.opening.proofs.mending.keys.Given as goal
 
 abbrev pub invariant-loop-i : goal.invariant-loop-i

@@ -1,10 +1,7 @@
-use mathlib.Core.Path.{◌≡◌, refl, ap}
+use mathlib.Core.Path.{◌≡◌}
 use Prim.Native.Nat.{◌+◌, ◌-◌, ◌≤◌}
-use native.Mathlib.Omega.{arith}
-use borrow.Author.Rules.{rules}
 use lib.ListN.{length}
-use Rattle.opening.specs.Openings.{Mended, mends, mended}
-use Rattle.opening.proofs.Openings.{at_most_one_header, mended_none, mended_next}
+use Rattle.opening.specs.Openings.{mends, mended}
 use Rattle.opening.proofs.mending.mend.Given as goal
 
 abbrev pub invariant-loop-j : goal.invariant-loop-j

@@ -1,11 +1,8 @@
 -- `mend_first` passes the nodes that are not stale: at each turn the scan that is left finds what the whole scan finds. Assumes nothing.
 use mathlib.Core.Path.{◌≡◌, sym, ap, ◌∙◌}
 use mathlib.Core.List.{List}
-use Prim.Native.Nat.{◌+◌, ◌-◌, ◌≤◌}
-use native.Mathlib.Nat.{sub-zero}
+use Prim.Native.Nat.{◌-◌}
 use native.Mathlib.Omega.{arith}
-use borrow.Author.Rules.{rules}
-use Rattle.digits.specs.Loops.{scan}
 use Rattle.tree.specs.Stores.{Store}
 use Rattle.walk.proofs.Loops.{scan_here, scan_next, scan_none}
 use Rattle.plan.specs.Plans.{one_group, plan_of}
@@ -13,9 +10,6 @@ use Rattle.plan.specs.declared.Effect.TheVariants.{Nothing}
 use Rattle.opening.specs.Openings.{stale, first_stale}
 use Rattle.opening.proofs.Openings.{first_at, first_none}
 use Rattle.opening.proofs.mending.mend_first.Goals as goal
-
-pub loop-j-init : goal.loop-j-init
-loop-j-init c = (omega arith, rw sub-zero)
 
 pub returns-then-is_stale : goal.returns-then-is_stale
 returns-then-is_stale c =

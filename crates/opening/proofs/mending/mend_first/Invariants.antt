@@ -1,16 +1,7 @@
-use mathlib.Core.Path.{◌≡◌, sym, ap, ◌∙◌}
-use mathlib.Core.List.{List}
+use mathlib.Core.Path.{◌≡◌}
 use Prim.Native.Nat.{◌+◌, ◌-◌, ◌≤◌}
-use native.Mathlib.Nat.{sub-zero}
-use native.Mathlib.Omega.{arith}
-use borrow.Author.Rules.{rules}
 use Rattle.digits.specs.Loops.{scan}
-use Rattle.tree.specs.Stores.{Store}
-use Rattle.walk.proofs.Loops.{scan_here, scan_next, scan_none}
-use Rattle.plan.specs.Plans.{one_group, plan_of}
-use Rattle.plan.specs.declared.Effect.TheVariants.{Nothing}
 use Rattle.opening.specs.Openings.{stale, first_stale}
-use Rattle.opening.proofs.Openings.{first_at, first_none}
 use Rattle.opening.proofs.mending.mend_first.Given as goal
 
 abbrev pub invariant-loop-j : goal.invariant-loop-j

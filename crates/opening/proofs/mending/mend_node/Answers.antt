@@ -1,14 +1,8 @@
 -- `mend_node` makes the definition's store by the one loop, where the node is stale. It rests on the law that stores inside the pool are made.
 -- Assumes nothing.
 use native.Mathlib.Omega.{arith}
-use borrow.Author.Rules.{rules}
-use Rattle.opening.proofs.Openings.{mend_unneeded, mend_undone, mend_done}
+use Rattle.opening.proofs.Openings.{mend_undone, mend_done}
 use Rattle.opening.proofs.mending.mend_node.Goals as goal
-
-pub returns-then-not-is_stale : goal.returns-then-not-is_stale
-returns-then-not-is_stale c =
-    let a = c.args in
-    mend_unneeded a.n a.map.now a.j a.pool.now c.is_stale.ensures c.if-not-is_stale.true
 
 pub returns-in_default : goal.returns-in_default
 returns-in_default c =

@@ -1,7 +1,5 @@
 -- `open` judges the sizes first. Assumes nothing.
 use mathlib.Core.Path.{◌∙◌}
-use native.Mathlib.Omega.{arith}
-use borrow.Author.Rules.{rules}
 use Rattle.opening.proofs.Openings.{open_wrong, open_unsized, open_holds}
 use Rattle.opening.proofs.mending.open.Goals as goal
 
@@ -10,23 +8,10 @@ returns-in_default c =
     rw c.refused.ensures
     (open_wrong c.args.pool.now c.capacity.ensures.0 c.args.map.now c.in_default.is)
 
-pub overflow_mul-n : goal.overflow_mul-n
-overflow_mul-n c = let z = rw c.in-Holds.is at c.capacity.ensures.1 in omega arith
-
-pub overflow_sub-n : goal.overflow_sub-n
-overflow_sub-n c = let z = rw c.in-Holds.is at c.capacity.ensures.1 in omega arith
-
 pub returns-then-map-n : goal.returns-then-map-n
 returns-then-map-n c =
     rw c.refused-then-map-n.ensures (open_unsized c.args.pool.now c.capacity.ensures.0
     c.args.map.now c.in-Holds.is c.if-map-n.true)
-
-pub open_sized-requires : goal.open_sized-requires
-open_sized-requires c = (
-  rw c.in-Holds.is at
-      c.capacity.ensures.1,
-  c.if-map-n.false,
-)
 
 pub returns : goal.returns
 returns c =

@@ -1,15 +1,9 @@
 -- `plan_within` lends the first bytes of its working memory, which are all 0. Assumes nothing.
-use mathlib.Core.Path.{ap}
 use Prim.Native.Nat.{◌-◌, ◌*◌}
 use native.Mathlib.Nat.{sub-zero}
 use native.Mathlib.Omega.{arith}
-use borrow.Author.Rules.{rules}
-use lib.ListN.{length, length-replicate}
 use Rattle.opening.proofs.Openings.{take_run}
 use Rattle.opening.proofs.mending.plan_within.Goals as goal
-
-pub slice_bounds-plan_with-end : goal.slice_bounds-plan_with-end
-slice_bounds-plan_with-end c = omega (arith, simp length-replicate at (ap length c.requires.1))
 
 pub plan_with-requires : goal.plan_with-requires
 plan_with-requires c = (
