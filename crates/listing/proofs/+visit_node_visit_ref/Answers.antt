@@ -41,12 +41,16 @@ visited t c =
     let e = c.child-r.ensures in
     let z = rw c.in-Branch.is at c.accept.ensures.1 in
     elim c.if-r-le-MOST.branch [
-      | visit_node-then-r-le-MOST w ↦
-          (rw w.keys-is w.visit_end-t.auto.keys, rw w.values-is w.visit_end-t.auto.values,
-          rw (w.keys-is, w.values-is, w.t-is) (kid_end _ _ _ _ _ _ _ e w.if-r-le-MOST.true w.visit_end-t.ensures))
-      | visit_node-else-r-le-MOST w ↦
-          (rw w.keys-is w.visit_ref-t.auto.keys, rw w.values-is w.visit_ref-t.auto.values,
-          rw (w.keys-is, w.values-is, w.t-is) (kid_ref _ _ _ _ _ _ _ e z.1 w.visit_ref-t.ensures))
+      | visit_node-then-r-le-MOST w ↦ (
+        rw w.keys-is w.visit_end-t.auto.keys,
+        rw w.values-is w.visit_end-t.auto.values,
+        rw (w.keys-is, w.values-is, w.t-is) (kid_end _ _ _ _ _ _ _ e w.if-r-le-MOST.true w.visit_end-t.ensures),
+      )
+      | visit_node-else-r-le-MOST w ↦ (
+        rw w.keys-is w.visit_ref-t.auto.keys,
+        rw w.values-is w.visit_ref-t.auto.values,
+        rw (w.keys-is, w.values-is, w.t-is) (kid_ref _ _ _ _ _ _ _ e z.1 w.visit_ref-t.ensures),
+      )
     ]
 
 pub visit_node-loop-c-init : goal.visit_node-loop-c-init

@@ -1,11 +1,7 @@
-use mathlib.Core.Path.{◌≡◌, ◌∙◌}
-use mathlib.Core.List.{◌++◌, append-nil}
+use mathlib.Core.Path.{◌≡◌}
+use mathlib.Core.List.{◌++◌}
 use Prim.Native.Nat.{◌-◌, ◌≤◌}
-use native.Mathlib.Omega.{arith}
-use borrow.Author.Fill.{fill_more}
-use borrow.Author.Rules.{rules}
-use lib.ListN.{length, drop, replicate, length-set}
-use lib.Seq.{drop-length}
+use lib.ListN.{length, drop, replicate}
 use Rattle.listing.proofs.clear.Given as goal
 
 abbrev pub invariant-loop-i : goal.invariant-loop-i

@@ -1,5 +1,4 @@
 -- `leaf` judges in the definition's order: the count of leaves met, the key, the room. Assumes nothing.
-use borrow.Author.Rules.{rules}
 use borrow.Author.Tests.{lt-ltb, le-ltb, le-leb, lt-leb}
 use Rattle.listing.specs.Listings.{leaf_of}
 use Rattle.listing.proofs.leaf.Goals as goal

@@ -1,7 +1,5 @@
 -- `list` refuses in the order 1, 6, 2, and else answers what the visit of the root left. Assumes nothing.
 use mathlib.Core.Path.{◌≡◌, ◌∙◌}
-use native.Mathlib.Omega.{arith}
-use borrow.Author.Rules.{rules}
 use Rattle.pool.specs.Places.{word_at}
 use Rattle.listing.specs.Listings.{Visit, state, visit, visit_from, judged, list_of}
 use Rattle.listing.proofs.Listings.{list_wrong, list_none, list_unequal, list_judged, judged_damage, judged_done}
@@ -32,16 +30,6 @@ judges : (c : After-new-start) {v : Visit}
 judges c e =
     list_judged _ _ _ _ c.capacity.ensures.0 c.in-Holds.is
     c.if-keys-eq0.false c.if-keys-values.false e
-
-pub bounds-pool-1 : goal.bounds-pool-1
-bounds-pool-1 c =
-    let z = rw c.in-Holds.is at c.capacity.ensures.1 in
-    omega arith
-
-pub visit_ref-s-requires : goal.visit_ref-s-requires
-visit_ref-s-requires c =
-    let z = rw c.in-Holds.is at c.capacity.ensures.1 in
-    (z, c.if-keys-values.false, omega arith)
 
 pub returns-then-phase-eq-DAMAGE : goal.returns-then-phase-eq-DAMAGE
 returns-then-phase-eq-DAMAGE c =

@@ -1,16 +1,10 @@
 -- `next_child` scans: the scan from here on finds what the whole scan finds. Assumes nothing.
-use mathlib.Core.Path.{◌≡◌, refl, ◌∙◌}
-use Prim.Native.Nat.{◌-◌}
+use mathlib.Core.Path.{◌∙◌}
 use native.Mathlib.Omega.{arith}
 use borrow.Author.Rules.{rules}
-use Rattle.digits.specs.Loops.{scan}
-use Rattle.walk.specs.Walks.{is_child}
 use Rattle.walk.proofs.Loops.{scan_none}
 use Rattle.walk.proofs.Nodes.{lowest_here, lowest_later}
 use Rattle.listing.proofs.next_child.Goals as goal
-
-pub loop-next-init : goal.loop-next-init
-loop-next-init c = refl
 
 pub returns-then-child-ne0 : goal.returns-then-child-ne0
 returns-then-child-ne0 c =

@@ -1,11 +1,7 @@
-use mathlib.Core.Path.{◌≡◌, refl, ◌∙◌}
+use mathlib.Core.Path.{◌≡◌}
 use Prim.Native.Nat.{◌-◌}
-use native.Mathlib.Omega.{arith}
-use borrow.Author.Rules.{rules}
 use Rattle.digits.specs.Loops.{scan}
 use Rattle.walk.specs.Walks.{is_child}
-use Rattle.walk.proofs.Loops.{scan_none}
-use Rattle.walk.proofs.Nodes.{lowest_here, lowest_later}
 use Rattle.listing.proofs.next_child.Given as goal
 
 abbrev pub invariant-loop-next : goal.invariant-loop-next

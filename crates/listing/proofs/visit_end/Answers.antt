@@ -1,19 +1,10 @@
 -- `visit_end` is a visit with no node left. Assumes nothing.
 use mathlib.Core.Path.{sym, ◌∙◌}
-use borrow.Author.Rules.{rules}
 use Rattle.listing.proofs.Visits.{visit_over, visit_on}
 use Rattle.listing.proofs.visit_end.Goals as goal
 
 pub returns-then-phase-ne-ON : goal.returns-then-phase-ne-ON
 returns-then-phase-ne-ON c = sym (visit_over _ _ _ 0 16 _ c.if-phase-ne-ON.true)
-
-pub leaf_key-requires : goal.leaf_key-requires
-leaf_key-requires c =
-    (c.requires.0, rw c.in-Leaf.is at c.reference.ensures.1)
-
-pub leaf_value-requires : goal.leaf_value-requires
-leaf_value-requires c =
-    (c.requires.0, rw c.in-Leaf.is at c.reference.ensures.1)
 
 pub returns-in-Empty : goal.returns-in-Empty
 returns-in-Empty c =
