@@ -15,10 +15,10 @@ decreases-visit_ref l = 2 * l.left + 1
 
 abbrev pub invariant-visit_node-loop-c : goal.invariant-visit_node-loop-c
 invariant-visit_node-loop-c l =
-    let i = l.initial in (l.c ≤ 16)
-    × (length l.keys ≡ length i.keys)
-    × (length l.values ≡ length i.values)
-    × (visit l.keys l.values l.t ≡ upto l.c (kid l.pool l.n l.from l.b l.j) (visit i.keys i.values i.t))
+    (l.c ≤ 16)
+    × (length l.keys ≡ length l.initial.keys)
+    × (length l.values ≡ length l.initial.values)
+    × (visit l.keys l.values l.t ≡ upto l.c (kid l.pool l.n l.from l.b l.j) (visit l.initial.keys l.initial.values l.initial.t))
 
 abbrev pub decreases-visit_node-loop-c : goal.decreases-visit_node-loop-c
 decreases-visit_node-loop-c l = 16 - l.c
