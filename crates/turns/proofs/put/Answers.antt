@@ -1,0 +1,8 @@
+-- `put` prints what the whole call answers. Assumes nothing.
+use borrow.Author.Rules.{rules}
+use Rattle.turns.specs.Turns.{leaves, answers_of, printed}
+use Rattle.turns.proofs.put.Goals as goal
+
+pub returns : goal.returns
+unfolding leaves answers_of printed
+returns c = rw (← c.put-done.ensures, c.write_answer.ensures)
