@@ -1,5 +1,4 @@
 -- `cut` makes steps, opens, and prints both. Assumes nothing.
-use borrow.Author.Rules.{rules}
 use Rattle.turns.specs.Turns.{printed}
 use Rattle.turns.proofs.cut.Goals as goal
 

@@ -1,5 +1,4 @@
 -- `delete` prints what the whole call answers. Assumes nothing.
-use borrow.Author.Rules.{rules}
 use Rattle.turns.specs.Turns.{leaves, answers_of, printed}
 use Rattle.turns.proofs.delete.Goals as goal
 

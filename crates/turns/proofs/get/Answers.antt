@@ -1,4 +1,3 @@
-use borrow.Author.Rules.{rules}
 use Rattle.turns.specs.Turns.{printed}
 use Rattle.turns.proofs.get.Goals as goal
 

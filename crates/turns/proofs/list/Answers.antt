@@ -1,6 +1,5 @@
 -- `list` prints what a listing from key 0 hands out. Assumes nothing.
 use mathlib.Core.Path.{sym, ◌∙◌}
-use borrow.Author.Rules.{rules}
 use Rattle.turns.proofs.Pages.{listing_printed}
 use Rattle.turns.proofs.list.Goals as goal
 

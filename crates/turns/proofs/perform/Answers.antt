@@ -1,6 +1,5 @@
 -- `perform` carries out what the turn is. Assumes nothing.
 use Rattle.turns.specs.Turns.{leaves, answers_of, printed}
-use borrow.Author.Rules.{rules}
 use Rattle.turns.proofs.perform.Goals as goal
 
 pub returns-in-Put : goal.returns-in-Put
