@@ -8,7 +8,7 @@ use native.Mathlib.Numerals.{add-one}
 use native.Mathlib.Omega.{arith}
 use borrow.Author.Tests.{le-ltb, leb-true, le-leb}
 use lib.ListN.{length, take, drop, length-append, length-drop}
-use lib.Seq.{length_take_le, take-append_seam}
+use lib.Seq.{length-take-le, take-append_seam}
 use Rattle.digits.specs.Choice.{pick}
 use Rattle.answers.specs.Answers.{text_of, Page, page, written}
 use Rattle.answers.specs.declared.Answer.{Answer}
@@ -41,7 +41,7 @@ module _ (text : List ℕ) (p : Page) (room : p.end + length text ≤ length p.b
   after = drop (p.end + length text) p.bytes
 
   before_length : length (before ++ text) ≡ p.end + length text
-  before_length = length-append before text ∙ ap (λ (n : ℕ). n + length text) (length_take_le p.end p.bytes (omega arith))
+  before_length = length-append before text ∙ ap (λ (n : ℕ). n + length text) (length-take-le p.end p.bytes (omega arith))
 
   abbrev filled : Page
   filled = page (before ++ text ++ after) (p.end + length text)
