@@ -1,20 +1,14 @@
 -- Laws of a session's bytes: a run that goes on or stops.
 -- Assumes nothing.
-use mathlib.Core.Path.{◌≡◌, refl, ap, ◌∙◌}
-use mathlib.Core.Bool.{Bool, true, false}
+use mathlib.Core.Path.{◌≡◌, ap, ◌∙◌}
+use mathlib.Core.Bool.{true, false}
 use mathlib.Core.List.{List, [], ◌∷◌}
-use Prim.Native.Nat.{ℕ, ◌+◌, ◌-◌, ◌<◌, ◌≤◌}
-use native.Mathlib.Nat.{zero-add}
+use Prim.Native.Nat.{ℕ, ◌+◌, ◌<◌, ◌≤◌}
 use native.Mathlib.Numerals.{add-one}
 use native.Mathlib.Omega.{arith}
-use borrow.Author.Tests.{leb-true, leb-false, le-leb, lt-leb}
-use lib.Dec.{leb}
 use lib.ListN.{length, get_or, drop, drop_of_length-le}
 use lib.Seq.{drop-cons}
-use Rattle.script.specs.Input.{Taking, taking, end_of}
-use Rattle.script.specs.declared.input.Taken.{Taken}
-use Rattle.turns.specs.Turns.{leaves, answers_of, printed, Acted, turned}
-use Rattle.session.specs.Bytes.{taken, Stream, on_byte, on_end, roomy, Going, going, run_of, most}
+use Rattle.session.specs.Bytes.{Stream, on_byte, roomy, Going, going, run_of}
 
 -- what is still to be run, after so many bytes
 abbrev after : ℕ → Going → Going

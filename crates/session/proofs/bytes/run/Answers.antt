@@ -6,12 +6,12 @@ use Rattle.session.proofs.bytes.run.Goals as goal
 
 pub loop-used-preserved : goal.loop-used-preserved
 loop-used-preserved c = (
-      omega arith,
-      omega arith,
-      omega arith,
-      run_on _ _ _ _ c.loop-used-test.true (sym c.has_room.ensures ∙ c.if-has_room.true) c.take-step.ensures
-          ∙ c.loop-used.invariant.3,
-    )
+  omega arith,
+  omega arith,
+  omega arith,
+  run_on _ _ _ _ c.loop-used-test.true (sym c.has_room.ensures ∙ c.if-has_room.true) c.take-step.ensures
+      ∙ c.loop-used.invariant.3,
+)
 
 pub returns-else-has_room : goal.returns-else-has_room
 returns-else-has_room c = run_full _ _ _ (sym c.has_room.ensures ∙ c.if-has_room.false) ∙ c.loop-used.invariant.3
