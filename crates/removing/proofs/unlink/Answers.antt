@@ -15,7 +15,7 @@ returns-then-c-ge-CHILDREN c =
     rw (
       ← c.children-count.ensures,
       le-ltb _ _ c.if-count-lt2.false,
-      le-ltb _ _ c.if-count-gt2.false,
+      le-ltb 2 c.children-count.result (omega arith),
       ← c.other_child-c.ensures,
       le-ltb _ _ c.if-c-ge-CHILDREN.true,
     )
@@ -31,7 +31,7 @@ returns c =
     rw (
       ← c.children-count.ensures,
       le-ltb _ _ c.if-count-lt2.false,
-      le-ltb _ _ c.if-count-gt2.false,
+      le-ltb 2 c.children-count.result (omega arith),
       ← c.other_child-c.ensures,
       lt-ltb _ _ c.if-c-ge-CHILDREN.false,
       ← c.child.ensures,
