@@ -27,12 +27,12 @@ claims = record {
   one_stale = at_most_one;
   question = listed_iff_openable;
   begins = begins;
-  by_plan_lem = by_plan_lem;
+  by_plan = by_plan_lem;
   from_c = returns;
   opening = opens;
   quick = as_lookup;
   one_outcome = unique;
   examples = cases_hold;
-  store_lists_lem = store_lists_hold;
+  store_lists = store_lists_hold;
   retired_names = retired_hold;
 }

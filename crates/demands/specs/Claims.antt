@@ -26,11 +26,11 @@ pub record Claims : Type 1 where
   -- "Is every name in the listing still openable, and is every openable name in the listing?"
   pub question : (g : Generation) → ListedIffOpenable g
   pub begins : Begins
-  pub by_plan_lem : ByPlan
+  pub by_plan : ByPlan
   pub from_c : Returns
   pub opening : Opens
   pub quick : AsLookup
   pub one_outcome : Unique
   pub examples : every cases ≡ true
-  pub store_lists_lem : every store_lists ≡ true
+  pub store_lists : every store_lists ≡ true
   pub retired_names : every retired ≡ true
