@@ -7,7 +7,7 @@ ghost use Rattle.answers.specs.Numbers.{glyph_of, places_in, last_digits};
 ghost use Rattle.answers.specs.Answers.{line_end, fields_of, text_of, page, written, listing_of};
 
 // What is printed.
-#[derive(Drop)]
+#[derive(Clone, Copy)]
 pub enum Answer {
     // Number and stores made.
     Put(u64, usize),

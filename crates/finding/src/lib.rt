@@ -11,7 +11,7 @@ use pool::{Ref, Size};
 use walk::Head;
 
 // What a lookup finds: the value and the nodes of its walk, or the nodes before it missed or met damage, or a wrong size.
-#[derive(Drop)]
+#[derive(Clone, Copy)]
 pub enum Found {
     Hit(u64, usize),
     Absent(usize),

@@ -12,7 +12,7 @@ use pool::{Ref, Size};
 use walk::Head;
 
 // What a listing answers: document 01's number, the entries handed out, and whether there is a further one.
-#[derive(Drop)]
+#[derive(Clone, Copy)]
 pub struct Listed {
     pub number: u64,
     pub count: usize,
@@ -20,7 +20,7 @@ pub struct Listed {
 }
 
 // The state of a visit: entries handed out, leaves met, and whether it goes on.
-#[derive(Drop)]
+#[derive(Clone, Copy)]
 pub struct State {
     pub count: usize,
     pub met: usize,

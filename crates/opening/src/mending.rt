@@ -11,7 +11,7 @@ use pool::Size;
 use walk::{Head, Lowest};
 
 // What an opening answers: document 01's number, the keys held, the headers rewritten.
-#[derive(Drop)]
+#[derive(Clone, Copy)]
 pub struct Opened {
     pub number: u64,
     pub keys: usize,
@@ -19,7 +19,7 @@ pub struct Opened {
 }
 
 // The header that a stale node is to have, or none.
-#[derive(Drop)]
+#[derive(Clone, Copy)]
 pub enum Fresh {
     Header(u64),
     NoHeader,

@@ -27,7 +27,7 @@ fn cleft(pool: &[u64], s: Spot, near: u64, diff: usize) -> Cleft
 }
 
 // Where a put goes: leaf i, which holds the key; an empty reference; a reference that is split; or nowhere, with a number.
-#[derive(Drop)]
+#[derive(Clone, Copy)]
 pub enum Place {
     Held(usize),
     Gap(usize),

@@ -6,7 +6,7 @@ ghost use Rattle.plan.specs.Plans.{refused};
 use plan::Effect;
 
 // What is laid out in the lists: document 01's number, how many stores, and what they do to the map.
-#[derive(Drop)]
+#[derive(Clone, Copy)]
 pub struct Laid {
     pub number: u64,
     pub count: usize,

@@ -9,7 +9,7 @@ ghost use Rattle.pool.specs.Refs.{ref_of, Within};
 use digits::Header;
 
 // The capacity that a run of words has, or that its size is wrong.
-#[derive(Drop)]
+#[derive(Clone, Copy)]
 pub enum Size {
     Holds(usize),
     Wrong,
@@ -47,7 +47,7 @@ pub fn capacity(pool: &[u64]) -> Size
 }
 
 // What a reference means.
-#[derive(Drop)]
+#[derive(Clone, Copy)]
 pub enum Ref {
     Empty,
     Leaf(usize),

@@ -12,21 +12,21 @@ use pool::{Ref, Size};
 use walk::{End, Head, Lowest, Spot};
 
 // The switch of a removal: the reference in the word `at` takes another child, or 0.
-#[derive(Drop)]
+#[derive(Clone, Copy)]
 pub struct Switch {
     pub at: usize,
     pub child: u64,
 }
 
 // The header that follows the switch, and its word.
-#[derive(Drop)]
+#[derive(Clone, Copy)]
 pub struct Follows {
     pub word: usize,
     pub header: u64,
 }
 
 // What a removal comes to: a number; or a switch, which a header may follow, and what they do to the map.
-#[derive(Drop)]
+#[derive(Clone, Copy)]
 pub enum Removal {
     Refused(u64),
     Switched(Switch, Effect),

@@ -13,14 +13,14 @@ pub struct Cleft {
 }
 
 // What is split off: a leaf, or node j, which branches at b.
-#[derive(Drop)]
+#[derive(Clone, Copy)]
 pub enum Target {
     ALeaf,
     ANode(usize, usize),
 }
 
 // The free leaf and the free node that a split takes, by their bytes in the map.
-#[derive(Drop)]
+#[derive(Clone, Copy)]
 pub enum Room {
     Slots(usize, usize),
     Full,

@@ -7,14 +7,14 @@ use crate::lines::Fed;
 use crate::turns::{Shell, Turn};
 
 // Bytes of the line that is being gathered, and the state that the lines before it left.
-#[derive(Drop)]
+#[derive(Clone, Copy)]
 pub struct Reader {
     pub len: usize,
     pub shell: Shell,
 }
 
 // What is to be done at a byte, and the state after it.
-#[derive(Drop)]
+#[derive(Clone, Copy)]
 pub struct Taken {
     pub turn: Turn,
     pub reader: Reader,

@@ -4,7 +4,7 @@ ghost use Rattle.script.specs.Numbers.{value_of, with_digit, number_from, key_of
 ghost use Rattle.script.specs.Lines.{put_of, delete_of, get_of, cut_of, key_and_value_of, tagged_of, command_of, feeding, fed_of, rest_of};
 
 // A line's command.
-#[derive(Drop)]
+#[derive(Clone, Copy)]
 pub enum Command {
     Put(u64, u64),
     Delete(u64),
@@ -15,14 +15,14 @@ pub enum Command {
 }
 
 // What a field says as a number.
-#[derive(Drop)]
+#[derive(Clone, Copy)]
 pub enum Number {
     Is(u64),
     Not,
 }
 
 // What a byte does to the line that is being gathered: it grows to so many bytes, or is whole.
-#[derive(Drop)]
+#[derive(Clone, Copy)]
 pub enum Fed {
     More(usize),
     Whole(usize),

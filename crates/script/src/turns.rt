@@ -5,21 +5,21 @@ ghost use Rattle.script.specs.Turns.{fresh, next, stepped, plain_turn, cut_turn,
 use crate::lines::Command;
 
 // The cut that waits for the next P or D: none, or after so many stores.
-#[derive(Drop)]
+#[derive(Clone, Copy)]
 pub enum Pending {
     None,
     After(usize),
 }
 
 // The lines so far, and the cut that waits.
-#[derive(Drop)]
+#[derive(Clone, Copy)]
 pub struct Shell {
     pub lines: u64,
     pub pending: Pending,
 }
 
 // What is to be done at a line. A wrong line has its number.
-#[derive(Drop)]
+#[derive(Clone, Copy)]
 pub enum Turn {
     Put(u64, u64),
     Delete(u64),
@@ -32,7 +32,7 @@ pub enum Turn {
 }
 
 // A turn, and the state after it.
-#[derive(Drop)]
+#[derive(Clone, Copy)]
 pub struct Step {
     pub turn: Turn,
     pub shell: Shell,

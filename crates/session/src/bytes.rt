@@ -13,14 +13,14 @@ const MOST: usize = 10263;
 pub const LINE: usize = 64;
 
 // The reader after a byte, and up to where the page is filled then.
-#[derive(Drop)]
+#[derive(Clone, Copy)]
 pub struct Step {
     pub reader: Reader,
     pub end: usize,
 }
 
 // How far a run came: the bytes of the input that it took, up to where it filled the page, and the reader then.
-#[derive(Drop)]
+#[derive(Clone, Copy)]
 pub struct Progress {
     pub used: usize,
     pub end: usize,

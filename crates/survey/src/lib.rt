@@ -12,14 +12,14 @@ use pool::Ref;
 use walk::Head;
 
 // The last key met, and whether all is sound so far.
-#[derive(Drop)]
+#[derive(Clone, Copy)]
 pub struct Census {
     pub last: u64,
     pub sound: bool,
 }
 
 // What the children of a node so far come to: the census, a key below the first of them, and whether there was one.
-#[derive(Drop)]
+#[derive(Clone, Copy)]
 pub struct Gather {
     pub census: Census,
     pub first: u64,

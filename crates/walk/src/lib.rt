@@ -11,7 +11,7 @@ use digits::Header;
 use pool::Ref;
 
 // What a header says to a walk: the branch place, or damage.
-#[derive(Drop)]
+#[derive(Clone, Copy)]
 pub enum Head {
     Branch(usize),
     Wrong,
@@ -35,7 +35,7 @@ pub fn accept(w: usize, word: u64) -> Head
 }
 
 // Where damage was met and why: a word of the pool, and a reason.
-#[derive(Drop)]
+#[derive(Clone, Copy)]
 pub struct Fault {
     pub word: usize,
     pub reason: u64,
@@ -71,7 +71,7 @@ impl Fault {
 }
 
 // Where a walk stands.
-#[derive(Drop)]
+#[derive(Clone, Copy)]
 pub struct Spot {
     // The word of the reference that it stands at, and the walk depth there.
     pub at: usize,
@@ -114,7 +114,7 @@ impl Spot {
 }
 
 // How a walk ends: at leaf i, at an empty reference, before node j that branches at b, or at damage after so many nodes, with its word and reason.
-#[derive(Drop)]
+#[derive(Clone, Copy)]
 pub enum End {
     AtLeaf(Spot, usize),
     AtEmpty(Spot),
@@ -218,7 +218,7 @@ pub fn other_child(pool: &[u64], n: usize, j: usize, at: usize) -> usize
 }
 
 // The key of a lowest leaf, or damage on the way to it, with its word and reason.
-#[derive(Drop)]
+#[derive(Clone, Copy)]
 pub enum Lowest {
     Key(u64),
     NoKey(Fault),

@@ -17,7 +17,7 @@ use room::{find_room, lowest_free};
 use rules::{Cleft, Room, Target};
 
 // What a whole call answers: document 01's number, and the stores made.
-#[derive(Drop)]
+#[derive(Clone, Copy)]
 pub struct Done {
     pub number: u64,
     pub stores: usize,
