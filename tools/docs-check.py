@@ -3,7 +3,7 @@
 
 Usage: docs-check.py [--write]      --write puts the counted numbers into the documents.
 
-Read: README.md, docs/*.md, host/README.md; but not docs/PORT.md, which speaks of names that are gone. Blocks between ``` are not read, but
+Read: README.md, docs/*.md, host/README.md; but not docs/PORT.md and docs/DESIGN-PASS.md, which speak of names that are gone. Blocks between ``` are not read, but
 README's first block of C has to be examples/hello.c, and each other one has to stand in examples/durable.c and in the comment of include/wort.h.
 
 A link [..](path) has to lead to a file or folder, seen from its document; #place has to be a heading there.
@@ -32,7 +32,7 @@ import re
 import sys
 
 ROOT = pathlib.Path(__file__).resolve().parent.parent
-DOCUMENTS = [ROOT / "README.md", *sorted(f for f in (ROOT / "docs").glob("*.md") if f.name != "PORT.md"), ROOT / "host" / "README.md"]
+DOCUMENTS = [ROOT / "README.md", *sorted(f for f in (ROOT / "docs").glob("*.md") if f.name not in ("PORT.md", "DESIGN-PASS.md")), ROOT / "host" / "README.md"]
 SOURCES = {".antt", ".rt", ".rs", ".c", ".h", ".py", ".sh"}
 MADE = ("build/", "crates/wort/out/", "crates/names/out/", "host/target/")  # what commands make
 COMMANDS = {"rt", "gcc", "cargo", "python3", "make"}

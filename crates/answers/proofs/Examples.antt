@@ -1,9 +1,8 @@
 -- An answer of each kind and its text, by computation.
 -- Assumes nothing.
-use mathlib.Core.Path.{◌≡◌, refl}
-use mathlib.Core.List.{List, [], ◌∷◌, map}
-use Prim.Native.Nat.{ℕ}
-use Rattle.script.proofs.Examples.{bytes}
+use Rattle.std.proofs.Common.{◌≡◌, ℕ, List, [], ◌∷◌, map, Ok, Err, refl}
+use Rattle.std.specs.Prelude.{codes}
+use Rattle.refusals.specs.declared.Refusal.TheVariants.{Absent}
 use Rattle.answers.specs.Numbers.{glyph_of, last_digits, places_in}
 use Rattle.answers.specs.Answers.{fields_of, text_of}
 use Rattle.answers.specs.declared.Answer.{Answer}
@@ -13,16 +12,16 @@ texts : List Answer → List (List ℕ)
 texts answers = map text_of answers
 
 printed : texts (
-    Put 0 20
-    ∷ Delete 3 0
-    ∷ Get 0 3 1
+    Put (Ok 20)
+    ∷ Delete (Err Absent)
+    ∷ Get (Ok 3) 1
     ∷ Entry 0x20f 3
     ∷ End 3
-    ∷ Cut 0 20 3 1
+    ∷ Cut (Ok tt) 20 3 1
     ∷ Wrong 18446744073709551615
     ∷ []
     )
-    ≡ map bytes (
+    ≡ map codes (
     "P\t0\t20\n"
     ∷ "D\t3\t0\n"
     ∷ "G\t0\t3\t1\n"

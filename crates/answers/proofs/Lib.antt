@@ -1,2 +1,3 @@
 pub mod Texts
+pub mod Pages
 pub mod Examples

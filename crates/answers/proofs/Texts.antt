@@ -1,28 +1,15 @@
--- Laws of texts: how many digits there are, and that a text grows from its end, byte by byte, digit by digit and field by field.
+-- Laws of texts: a number's digits are those that the library prints, and a text grows digit by digit and field by field.
 -- Assumes nothing.
-use mathlib.Core.Path.{◌≡◌, refl, sym, ap, ◌∙◌}
-use mathlib.Core.Bool.{Bool, true, false}
-use mathlib.Core.List.{List, [], ◌∷◌, ◌++◌}
-use Prim.Native.Nat.{ℕ, zero, suc, ◌+◌, ◌-◌, ◌/◌, ◌%◌, ◌^◌, ◌≤◌, ◌<◌, min}
-use native.Mathlib.Nat.{le_refl}
-use native.Mathlib.Numerals.{add-one}
-use native.Mathlib.Omega.{arith}
-use borrow.Author.Tests.{lt-ltb, le-ltb}
-use lib.Dec.{ltb}
-use lib.ListN.{length, get_or, take, drop, set, length-set}
-use lib.Seq.{append_snoc, drop-cons, get_or-set_same, drop-set-lt, take-suc, take-length, paste, paste-suc}
+use Rattle.std.proofs.Common.{◌≡◌, ℕ, zero, suc, ◌+◌, ◌-◌, ◌*◌, ◌/◌, ◌%◌, ◌^◌, ◌<◌, ◌≤◌, Bool, true, false, List, [], ◌∷◌, ◌++◌, length, get_or, drop, refl, sym, ◌∙◌, arith, add-one, ltb, append_assoc, bit_and, drop-cons, rules}
+use Rattle.std.specs.Fmt.{decimal}
+use Rattle.std.proofs.lemmas.Fmt.{AppendsLastDigit, decimal_from_appends, length-decimal-le}
+use Rattle.std.proofs.lemmas.List.{drop_all}
+use Rattle.std.proofs.lemmas.Nat.{and_mask, pow-add}
+use Rattle.std.proofs.Math.Nat.{div-div-eq-div-mul, pow-suc}
 use Rattle.digits.specs.Choice.{pick}
-use Rattle.digits.specs.Loops.{upto}
 use Rattle.script.specs.Bytes.{tab}
 use Rattle.answers.specs.Numbers.{glyph_of, last_digits, places_in, decimal_of}
-use Rattle.answers.specs.Answers.{fields_of, text_of, Page, page, written, entries_of, listing_of}
-use Rattle.answers.specs.declared.Answer.TheVariants.{Entry, End}
-
--- a byte put before a text
-pub byte_before : (l : List ℕ) (i b : ℕ) → i < length l → drop i (set l i b) ≡ b ∷ drop (i + 1) l
-byte_before l i b h =
-    let h' : i < length (set l i b) = rw length-set h in
-    rw (drop-cons (set l i b) i 0, get_or-set_same l i b 0, drop-set-lt (suc i) l i b (le_refl (suc i)), add-one)
+use Rattle.answers.specs.Answers.{fields_of}
 
 -- a number has at most so many digits as are looked for
 pub places_le : (n x : ℕ) → places_in n x ≤ n
@@ -34,92 +21,46 @@ places_le (suc n) x = go (ltb x 10) (places_in n (x / 10)) (places_le n (x / 10)
     go true k h = omega arith
     go false k h = omega arith
 
-places_one : (n x : ℕ) → x < 10 → places_in (suc n) x ≡ 1
-unfolding places_in
-places_one n x h = rw (lt-ltb x 10 h)
+-- the digits that are printed where so many are looked for
+abbrev digits_in : ℕ → ℕ → List ℕ
+digits_in k x = last_digits 10 (places_in k x) x
 
-places_more : (n x : ℕ) → 10 ≤ x → places_in (suc n) x ≡ places_in n (x / 10) + 1
-unfolding places_in
-places_more n x h = rw (le-ltb x 10 h)
+appended : AppendsLastDigit digits_in
+unfolding last_digits places_in glyph_of
+appended = search rules
 
--- a turn of the loop that counts a number's digits: n are counted, the rest has 21 - n at most
-module _ (n x whole : ℕ) (counted : n ≤ 20) (small : x < 10 ^ (21 - n)) (all : n + places_in (21 - n) x ≡ whole + 1) where
-  pub places_turn : 10 ≤ x → (n + 1 ≤ 20) × (x / 10 < 10 ^ (21 - (n + 1))) × (n + 1 + places_in (21 - (n + 1)) (x / 10) ≡ whole + 1)
-  places_turn h =
-      let e : 21 - n ≡ suc (20 - n) = omega arith in
-      let f : 21 - (n + 1) ≡ 20 - n = omega arith in
-      let s : x < 10 ^ suc (20 - n) = rw e at small in
-      let a : n + places_in (suc (20 - n)) x ≡ whole + 1 = rw e at all in
-      let l : n + 1 ≤ 20 = few (20 - n) s h (omega arith) in
-      (l, rw f (omega arith), rw f (omega (arith, places_more (20 - n) x h)))
-    where
-      few : (k : ℕ) → x < 10 ^ suc k → 10 ≤ x → n + k ≡ 20 → n + 1 ≤ 20
-      few zero s h e = omega arith
-      few (suc k) s h e = omega arith
+-- a number is printed as the library prints it
+pub decimal_is : (x : ℕ) → x < 2 ^ 64 → decimal x ≡ decimal_of x
+decimal_is x h = sym (decimal_from_appends digits_in appended 20 x h (length-decimal-le 20 x (omega arith) (omega arith) h))
 
-  pub places_done : x < 10 → n ≡ whole
-  places_done h =
-      let e : 21 - n ≡ suc (20 - n) = omega arith in
-      let a : n + places_in (suc (20 - n)) x ≡ whole + 1 = rw e at all in
-      omega (arith, places_one (20 - n) x h)
+power_is : (k : ℕ) → 2 ^ (4 * k) ≡ 16 ^ k
+power_is zero = refl
+power_is (suc k) = let e : 4 * suc k ≡ 4 * k + 4 = omega arith in rw (e, pow-add 2 (4 * k) 4, power_is k, pow-suc 16 k)
 
--- a turn of the loop that puts a number's last digits before a text
-module _ (base from i x : ℕ) (t whole : List ℕ) (all : last_digits base (i - from) x ++ t ≡ whole) where
-  pub digit_before : (j g : ℕ) (u : List ℕ) → from < i → j + 1 ≡ i → g ≡ glyph_of (x % base) → u ≡ g ∷ t → last_digits base (j - from) (x / base) ++ u ≡ whole
-  unfolding last_digits
-  digit_before j g u h e is f =
-      let k : i - from ≡ suc (j - from) = omega arith in
-      rw (f, is) (sym (append_snoc (last_digits base (j - from) (x / base)) (glyph_of (x % base)) t) ∙ rw k at all)
+-- a digit of a key more, from the highest on
+pub digit_more : (x i d : ℕ) → i < 16 → d ≡ bit_and (x / 2 ^ (60 - 4 * i)) 15
+    → last_digits 16 i (x / 16 ^ (16 - i)) ++ (glyph_of d ∷ []) ≡ last_digits 16 (i + 1) (x / 16 ^ (16 - (i + 1)))
+unfolding last_digits
+digit_more x i d h e =
+    let k : 16 - i ≡ suc (15 - i) = omega arith in
+    let j : 16 - (i + 1) ≡ 15 - i = omega arith in
+    let s : 60 - 4 * i ≡ 4 * (15 - i) = omega arith in
+    let p : 2 ^ (60 - 4 * i) ≡ 16 ^ (15 - i) = rw s (power_is (15 - i)) in
+    let g : d ≡ x / 16 ^ (15 - i) % 16 = e ∙ rw p (and_mask (x / 16 ^ (15 - i)) 4) in
+    let q : x / 16 ^ suc (15 - i) ≡ x / 16 ^ (15 - i) / 16 = rw (pow-suc 16 (15 - i)) (sym (div-div-eq-div-mul x (16 ^ (15 - i)) 16)) in
+    rw (k, j, add-one, g, q)
 
-  pub digits_done : i ≤ from → t ≡ whole
-  unfolding last_digits
-  digits_done h = let k : i - from ≡ 0 = omega arith in rw k at all
+-- a field more, a tab and a number's digits
+module _ (numbers text before tabbed after digits whole : List ℕ) (i : ℕ) (within : i < length numbers) (small : get_or numbers i 0 < 2 ^ 64) where
+  pub field_more : tabbed ≡ before ++ (tab ∷ []) → digits ≡ decimal (get_or numbers i 0) → after ≡ tabbed ++ digits
+      → before ++ fields_of (drop i numbers) text ≡ whole → after ++ fields_of (drop (i + 1) numbers) text ≡ whole
+  unfolding fields_of
+  field_more t d a w =
+      let x : ℕ = get_or numbers i 0 in
+      let e : drop i numbers ≡ x ∷ drop (i + 1) numbers = rw (add-one, drop-cons numbers i 0) in
+      let f : digits ≡ decimal_of x = d ∙ decimal_is x small in
+      rw (a, t, f) (simp append_assoc (rw e at w))
 
--- a turn of the loop that puts numbers' fields before a text
-fields_snoc : (l : List ℕ) (x : ℕ) (t : List ℕ) → fields_of (l ++ (x ∷ [])) t ≡ fields_of l (tab ∷ (decimal_of x ++ t))
+pub field_done : (numbers text before whole : List ℕ) (i : ℕ) → length numbers ≤ i → before ++ fields_of (drop i numbers) text ≡ whole → before ++ text ≡ whole
 unfolding fields_of
-fields_snoc [] x t = refl
-fields_snoc (a ∷ l) x t = ap (λ (u : List ℕ). tab ∷ (decimal_of a ++ u)) (fields_snoc l x t)
-
-pub field_before : (l : List ℕ) (i n : ℕ) (t u whole : List ℕ) → 0 < i → i ≤ length l → n ≡ places_in 20 (get_or l (i - 1) 0)
-    → u ≡ tab ∷ (last_digits 10 n (get_or l (i - 1) 0) ++ t) → fields_of (take i l) t ≡ whole → fields_of (take (i - 1) l) u ≡ whole
-field_before l i n t u whole h r d e all =
-    let k : i ≡ suc (i - 1) = omega arith in
-    let f : take i l ≡ take (i - 1) l ++ (get_or l (i - 1) 0 ∷ []) = ap (λ (n : ℕ). take n l) k ∙ take-suc l (i - 1) 0 (omega arith) in
-    rw (e, d) (sym (fields_snoc (take (i - 1) l) (get_or l (i - 1) 0) t) ∙ rw f at all)
-
-pub fields_done : (l : List ℕ) (i : ℕ) (t whole : List ℕ) → i ≤ 0 → fields_of (take i l) t ≡ whole → t ≡ whole
-unfolding fields_of
-fields_done l i t whole h all = let k : i ≡ 0 = omega arith in rw k at all
-
--- a text that does not fit leaves the page as it is
-pub no_room : (text out : List ℕ) (at : ℕ) → length out < at + length text → page out at ≡ written text (page out at)
-unfolding written
-no_room text out at h = simp (lt-ltb (length out) (at + length text) h)
-
--- a turn of the loop that pastes a text
-pub one_pasted : (text out : List ℕ) (at i : ℕ) (now : List ℕ) → i < length text → at + length text ≤ length out → now ≡ paste out at text i
-    → set now (at + i) (get_or text i 0) ≡ paste out at text (i + 1)
-one_pasted text out at i now h r e = rw (e, add-one) (paste-suc out at text i 0 (omega arith) h)
-
--- a text that fits is pasted whole
-pub pasted_whole : (text out : List ℕ) (at i : ℕ) (now : List ℕ) → length text ≤ i → i ≤ length text → at + length text ≤ length out → now ≡ paste out at text i
-    → page now (at + i) ≡ written text (page out at)
-unfolding written
-pasted_whole text out at i now h l r e =
-    let w : i ≡ length text = omega arith in
-    rw (e, w, take-length text) (simp (le-ltb (length out) (at + length text) r))
-
--- a turn of the loop that lists entries
-pub entry_more : (keys values : List ℕ) (i : ℕ) (start before now : Page) → before ≡ entries_of i keys values start
-    → now ≡ written (text_of (Entry (get_or keys i 0) (get_or values i 0))) before → now ≡ entries_of (i + 1) keys values start
-unfolding upto
-entry_more keys values i start before now e f = f ∙ rw (e, add-one)
-
--- the count after the entries
-pub listed : (keys values : List ℕ) (count n i : ℕ) (start before now : Page) → n ≡ min count (min (length keys) (length values)) → n ≤ i → i ≤ n
-    → before ≡ entries_of i keys values start
-    → now ≡ written (text_of (End count)) before → now ≡ listing_of keys values count start
-listed keys values count n i start before now e h l f g =
-    let w : i ≡ min count (min (length keys) (length values)) = omega arith in
-    g ∙ ap (written (text_of (End count))) (f ∙ ap (λ (k : ℕ). entries_of k keys values start) w)
+field_done numbers text before whole i h w = rw (drop_all i numbers h) at w

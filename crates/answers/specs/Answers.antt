@@ -1,8 +1,11 @@
 -- What an answer is printed as, and where it goes.
 -- Assumes nothing.
-use Rattle.std.specs.Prelude.{List, [], ◌∷◌, ◌++◌, ℕ, ◌+◌, min, ltb, length, get_or, take, drop}
+use Rattle.std.specs.Prelude.{List, [], ◌∷◌, ◌++◌, ℕ, ◌+◌, ◌-◌, min, ltb, length, get_or, Result}
+use Rattle.std.specs.Result.{result_unwrap_or}
 use Rattle.digits.specs.Choice.{pick}
 use Rattle.digits.specs.Loops.{upto}
+use Rattle.refusals.specs.declared.Refusal.{Refusal}
+use Rattle.refusals.specs.Refusals.{number_in}
 use Rattle.script.specs.Bytes.{tab, newline, query, letter_C, letter_D, letter_E, letter_G, letter_L, letter_P}
 use Rattle.answers.specs.Numbers.{decimal_of, hex_of}
 use Rattle.answers.specs.declared.Answer.{Answer}
@@ -16,35 +19,41 @@ fields_of (x ∷ numbers) text = tab ∷ (decimal_of x ++ fields_of numbers text
 abbrev pub line_end : List ℕ
 line_end = newline ∷ []
 
+-- what a call gave, and 0 where it was refused
+abbrev pub value_in : Result ℕ Refusal → ℕ
+value_in answer = result_unwrap_or answer 0
+
 unfoldable pub text_of : Answer → List ℕ
 -- "P key value prints P, code, stores made."
-text_of (Put number stores) = letter_P ∷ fields_of (number ∷ stores ∷ []) line_end
+text_of (Put stores) = letter_P ∷ fields_of (number_in stores ∷ value_in stores ∷ []) line_end
 -- "D key prints D, code, stores made."
-text_of (Delete number stores) = letter_D ∷ fields_of (number ∷ stores ∷ []) line_end
+text_of (Delete stores) = letter_D ∷ fields_of (number_in stores ∷ value_in stores ∷ []) line_end
 -- "G key prints G, code, value, nodes."
-text_of (Get number value nodes) = letter_G ∷ fields_of (number ∷ value ∷ nodes ∷ []) line_end
+text_of (Get value nodes) = letter_G ∷ fields_of (number_in value ∷ value_in value ∷ nodes ∷ []) line_end
 -- "L prints L, key, value for each"
 text_of (Entry key value) = letter_L ∷ tab ∷ (hex_of key ++ fields_of (value ∷ []) line_end)
 -- "then E and the count"
 text_of (End count) = letter_E ∷ fields_of (count ∷ []) line_end
 -- "that P or D prints C, its code, stores made, keys, headers rewritten"
-text_of (Cut number stores keys headers) = letter_C ∷ fields_of (number ∷ stores ∷ keys ∷ headers ∷ []) line_end
+text_of (Cut planned stores keys headers) = letter_C ∷ fields_of (number_in planned ∷ stores ∷ keys ∷ headers ∷ []) line_end
 -- "prints ? and its line number"
 text_of (Wrong line) = query ∷ fields_of (line ∷ []) line_end
 
--- a buffer that is being filled, and up to where it is
+-- a page that is being filled: its bytes so far, and how many more it has room for
 pub record Page : Type 0 where
-  pub bytes : List ℕ
-  pub end : ℕ
+  pub filled : List ℕ
+  pub room : ℕ
 
 abbrev pub page : List ℕ → ℕ → Page
-page bytes end = record { bytes = bytes; end = end }
+page filled room = record { filled = filled; room = room }
 
 -- a text goes onto a page whole, or where there is no room not at all
 unfoldable pub written : List ℕ → Page → Page
-written text p =
-    pick (ltb (length p.bytes) (p.end + length text)) p
-    (page (take p.end p.bytes ++ text ++ drop (p.end + length text) p.bytes) (p.end + length text))
+written text p = pick (ltb p.room (length text)) p (page (p.filled ++ text) (p.room - length text))
+
+-- the page with nothing on it
+abbrev pub emptied : Page → Page
+emptied p = page [] (length p.filled + p.room)
 
 -- the entries of a listing, so many of them, one after the other
 abbrev pub entries_of : ℕ → List ℕ → List ℕ → Page → Page

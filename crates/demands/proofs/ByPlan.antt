@@ -1,5 +1,6 @@
 -- Plans carried out: n steps make the first n stores, all of them and the finish make the whole call, no finish is refused, and each case has its count.
 -- Assumes nothing.
+use Rattle.std.specs.Prelude.{None, Option, Some}
 use mathlib.Core.Path.{◌≡◌, refl, sym, ap, ◌∙◌, subst}
 use mathlib.Core.Bool.{true}
 use mathlib.Core.Logic.{◌⊎◌, inl, inr, ⊎_elim}
@@ -13,12 +14,9 @@ use lib.ListN.{length, take}
 use lib.Seq.{take_all}
 use Rattle.digits.proofs.Choice.{pick_case}
 use Rattle.pool.specs.Sizes.{capacity_of}
-use Rattle.pool.specs.declared.Size.{Size}
-use Rattle.pool.specs.declared.Size.TheVariants.{Holds, Wrong}
 use Rattle.tree.proofs.Basics.{Same?, same, other, same?, less?}
 use Rattle.tree.proofs.Stores.{Words}
-use Rattle.plan.specs.Plans.{all_but_last, the_switch, one_group, adr, eadr, known, groups_of, fenced, made, after, step_of, Decided, refused, planned_of, decided_for, planned_for}
-use Rattle.plan.specs.declared.Planned.{Planned}
+use Rattle.plan.specs.Plans.{all_but_last, the_switch, one_group, adr, eadr, known, groups_of, fenced, made, after, step_of, Decided, refused, planned_of, decided_for, planned_for, Planned}
 use Rattle.plan.specs.declared.Plan.{Plan}
 use Rattle.plan.proofs.Laws.{plan_word, plan_value, step_after}
 use Rattle.finishing.specs.Finishes.{finish_of}
@@ -83,17 +81,17 @@ module _ (pool map : List ℕ) (k : ℕ) (m : Mapped pool map) where
       whole : carried_out (fenced g (planned_of the_switch (delete_plan pool k))) pool map ≡ whole_of (delete_plan pool k) pool map
       whole = carried_whole g the_switch (delete_plan pool k) pool (delete_few pool k) (delete_inside pool k) (delete_refusal pool k) map
 
-      go : (z : Size) → z ≡ capacity_of pool → carried_out (fenced g (planned_of the_switch (delete_plan pool k))) pool map ≡ delete_of pool map k
-      go (Holds n) e = delete_made pool map k e refl (m n (sym e)) refl whole
-      go Wrong e = whole ∙ rw (← e) (delete_unsized_whole pool map k e refl)
+      go : (z : Option ℕ) → z ≡ capacity_of pool → carried_out (fenced g (planned_of the_switch (delete_plan pool k))) pool map ≡ delete_of pool map k
+      go (Some n) e = delete_made pool map k e refl (m n (sym e)) refl whole
+      go None e = whole ∙ rw (← e) (delete_unsized_whole pool map k e refl)
 
   delete_finishes : (finish_of (delete_plan pool k).effect map).number ≡ 0
   unfolding delete_plan
   delete_finishes = go (capacity_of pool) refl
     where
-      go : (z : Size) → capacity_of pool ≡ z → (finish_of (delete_plan pool k).effect map).number ≡ 0
-      go (Holds n) e = finish_done (delete_plan pool k).effect map (rw (m n e) (delete_named pool k e))
-      go Wrong e = rw e
+      go : (z : Option ℕ) → capacity_of pool ≡ z → (finish_of (delete_plan pool k).effect map).number ≡ 0
+      go (Some n) e = finish_done (delete_plan pool k).effect map (rw (m n e) (delete_named pool k e))
+      go None e = rw e
 
 -- ---- what is decided for a generation
 module _ (g : ℕ) (d : Decided) where

@@ -1,5 +1,6 @@
 -- Every call has its causes, one for each number that it gives back: for every pool, map, plan and key.
 -- Assumes nothing.
+use Rattle.std.specs.Prelude.{None, Option, Some}
 use mathlib.Core.Path.{◌≡◌, refl, sym, subst}
 use mathlib.Core.Bool.{true, false}
 use mathlib.Core.List.{List}
@@ -12,8 +13,6 @@ use Rattle.digits.specs.Choice.{pick}
 use Rattle.digits.proofs.Choice.{pick_case}
 use Rattle.pool.proofs.Sizes.{size_fits}
 use Rattle.pool.specs.Sizes.{size_of, bytes_of, Sized}
-use Rattle.pool.specs.declared.Size.{Size}
-use Rattle.pool.specs.declared.Size.TheVariants.{Holds, Wrong}
 use Rattle.tree.proofs.Basics.{true_not_false}
 use Rattle.walk.specs.Walks.{walk_of}
 use Rattle.plan.specs.Plans.{After as Stored, Decided, decided, store_of, step_of, refused}
@@ -123,14 +122,14 @@ format_asked : (pool bytes : List ℕ) (n : ℕ) → Asks (Sized pool n × (leng
 unfolding format_of
 format_asked pool bytes n = go (size_of (length pool) n) refl
   where
-    go : (s : Size) → size_of (length pool) n ≡ s → Asks (Sized pool n × (length bytes ≡ bytes_of n)) 1 (format_in pool bytes s).number
-    go (Holds m) e =
+    go : (s : Option ℕ) → size_of (length pool) n ≡ s → Asks (Sized pool n × (length bytes ≡ bytes_of n)) 1 (format_in pool bytes s).number
+    go (Some m) e =
         let q : m ≡ n = size_same (length pool) n m (sym e) in
         let z : Sized pool n = rw (e, q) at (size_fits pool n) in
         rw q
         (pick_case (λ (f : Formatted). Asks (Sized pool n × (length bytes ≡ bytes_of n)) 1 f.number) (eqb (length bytes) (bytes_of n))
         (λ t. so (z, eqb-true (length bytes) (bytes_of n) t)) (λ t. not_so (λ h. eqb-false (length bytes) (bytes_of n) t h.1)))
-    go Wrong e = not_so (λ h. wrong_holds e (sized_holds h.0))
+    go None e = not_so (λ h. wrong_holds e (sized_holds h.0))
 
 -- a store, or two, or 5
 module _ {P : Type 0} (l : List ℕ) (i : ℕ) where

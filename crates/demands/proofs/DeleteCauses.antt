@@ -1,9 +1,9 @@
 -- A delete's number and its cause, in a pool of n leaves.
 -- Assumes nothing.
+use Rattle.std.specs.Prelude.{Option, None, Some}
 use mathlib.Core.Path.{◌≡◌, refl, sym, ap, ◌∙◌}
 use mathlib.Core.Bool.{Bool, true, false}
 use mathlib.Core.Logic.{◌≢◌}
-use mathlib.Core.Option.{Option, none, some}
 use mathlib.Core.List.{List}
 use Prim.Native.Nat.{ℕ, ◌+◌, ◌≤◌, ◌<◌}
 use native.Mathlib.Decide.{dec_lt}
@@ -114,8 +114,8 @@ module _ (pool : List ℕ) (n key : ℕ) where
 
   -- ---- what a delete does with a found key: leaf l below node j
   number_of : Option ℕ → ℕ
-  number_of none = 2
-  number_of (some k) = 0
+  number_of None = 2
+  number_of (Some k) = 0
 
   -- the other child is bypassed or lifted unless its lowest way meets damage
   merge_is : (s : Spot) (o : Effect) (c j : ℕ) {r : Option ℕ} → s.depth ≤ 16 → Lowest pool n (child_word n j c) s.depth r
@@ -131,8 +131,8 @@ module _ (pool : List ℕ) (n key : ℕ) where
       rw (A.refers, A.head, lowest_is pool n h (Lowest.under a C L)) (go x r (fault_below pool n (Lowest.under a C L)))
     where
       go : (x : ℕ) (r : Option ℕ) (f : Fault) → (lift_of n s o (child_at pool n j c) x (branch pool n x) (told pool n r f)).number ≡ number_of r
-      go x none f = refl
-      go x (some k) f = refl
+      go x None f = refl
+      go x (Some k) f = refl
 
   -- every cause leads to its number
   missed_is : (a : Answer) → Lookup pool n key a → a.number ≢ 0 → (delete_at pool n key (walk_of pool n key)).number ≡ a.number
@@ -196,8 +196,8 @@ module _ (pool : List ℕ) (n key : ℕ) where
           go O (lowest_some pool n (child_word n j c) (branch pool n j + 1) (omega (arith, U.high)) (child_means pool n j c O.child))
         where
           go : {c : ℕ} → Other pool n key j c → (r : Option ℕ) × Lowest pool n (child_word n j c) (branch pool n j + 1) r → (x : ℕ) × Delete pool n key x
-          go O (none, L) = (2, Delete.damaged P z O L)
-          go O (some k2, L) = (0, Delete.two P z O L)
+          go O (None, L) = (2, Delete.damaged P z O L)
+          go O (Some k2, L) = (0, Delete.two P z O L)
 
   pub delete_some : (x : ℕ) × Delete pool n key x
   delete_some = let (a, L) = lookup_some pool n key in go L

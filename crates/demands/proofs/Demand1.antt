@@ -1,4 +1,5 @@
 -- Demand 1 holds: the table "Numbers given back", row by row, for every pool, map, plan and key. Assumes nothing.
+use Rattle.std.specs.Prelude.{None, Option, Some}
 use mathlib.Core.Path.{◌≡◌, refl, sym, ap, ◌∙◌, subst}
 use mathlib.Core.Bool.{Bool, true, false}
 use mathlib.Core.Logic.{◌⊎◌, inl, inr}
@@ -11,14 +12,11 @@ use lib.ListN.{length, get_or, set, length-set, length-replicate}
 use Rattle.digits.specs.Choice.{pick}
 use Rattle.digits.proofs.Choice.{pick_case}
 use Rattle.pool.specs.Sizes.{capacity_of, bytes_of}
-use Rattle.pool.specs.declared.Size.{Size}
-use Rattle.pool.specs.declared.Size.TheVariants.{Holds, Wrong}
 use Rattle.tree.proofs.Basics.{Same?, same, other, same?}
 use Rattle.tree.proofs.Stores.{Words}
-use Rattle.plan.specs.Plans.{all_but_last, the_switch, one_group, adr, fences_of, fenced, After, after, Decided, store_of, step_of, decided, refused, planned_of, decided_for, planned_for}
+use Rattle.plan.specs.Plans.{all_but_last, the_switch, one_group, adr, fences_of, fenced, After, after, Decided, store_of, step_of, decided, refused, planned_of, decided_for, planned_for, Planned}
 use Rattle.finishing.specs.Finishes.{stores_of, finish_of}
 use Rattle.plan.specs.declared.Plan.{Plan}
-use Rattle.plan.specs.declared.Planned.{Planned}
 use Rattle.plan.specs.declared.Effect.{Effect}
 use Rattle.plan.specs.declared.Effect.TheVariants.{Nothing, TakesLeaf, TakesBoth, FreesLeaf, FreesBoth}
 use Rattle.plan.proofs.Laws.{plan_word, plan_unused, words_at}
@@ -120,14 +118,14 @@ open_plan_refused : (pool : List ℕ) → ((open_plan pool).number ≡ 0 → ⊥
 unfolding open_plan
 open_plan_refused pool = go (capacity_of pool)
   where
-    go : (s : Size) → ((open_in pool s).number ≡ 0 → ⊥) → open_in pool s ≡ refused (open_in pool s).number
-    go (Holds n) = judge (survey_of pool n).census.sound
+    go : (s : Option ℕ) → ((open_in pool s).number ≡ 0 → ⊥) → open_in pool s ≡ refused (open_in pool s).number
+    go (Some n) = judge (survey_of pool n).census.sound
       where
         judge : (b : Bool) → let d : Decided = pick b (decided (mend_first pool n (survey_of pool n).marks) Nothing) (refused 2) in
             (d.number ≡ 0 → ⊥) → d ≡ refused d.number
         judge true h = absurd (h refl)
         judge false h = refl
-    go Wrong = λ h. refl
+    go None = λ h. refl
 
 -- ---- whole calls
 left_kept : {x : Left} {k : ℕ} {pool map : List ℕ} → x ≡ left (done k 0) pool map → (x.done.stores ≡ 0) × (x.pool ≡ pool) × (x.map ≡ map)
@@ -155,13 +153,13 @@ mapped_number : (pool map : List ℕ) (k : ℕ) → OneOf (0 ∷ 1 ∷ 2 ∷ 3 �
 unfolding OneOf
 mapped_number pool map k = go (capacity_of pool)
   where
-    go : (s : Size) → OneOf (0 ∷ 1 ∷ 2 ∷ 3 ∷ []) (mapped_of map s (delete_plan pool k)).number
-    go (Holds n) = judge (eqb (length map) (bytes_of n))
+    go : (s : Option ℕ) → OneOf (0 ∷ 1 ∷ 2 ∷ 3 ∷ []) (mapped_of map s (delete_plan pool k)).number
+    go (Some n) = judge (eqb (length map) (bytes_of n))
       where
         judge : (b : Bool) → OneOf (0 ∷ 1 ∷ 2 ∷ 3 ∷ []) (pick b (delete_plan pool k) (refused 1)).number
         judge true = one_of (0 ∷ 1 ∷ 2 ∷ 3 ∷ []) (delete_plan pool k).number (delete_number pool k)
         judge false = inr (inl refl)
-    go Wrong = inr (inl refl)
+    go None = inr (inl refl)
 
 -- ---- lookup and listing
 looked : {a : Answer} → Looks a → LookupSays a

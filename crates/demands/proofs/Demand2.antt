@@ -1,7 +1,7 @@
 -- Demand 2 holds.
 -- Assumes nothing.
+use Rattle.std.specs.Prelude.{Option, None, Some}
 use mathlib.Core.Path.{◌≡◌, sym, ap, ◌∙◌}
-use mathlib.Core.Option.{Option, none, some}
 use mathlib.Core.List.{List}
 use Prim.Native.Nat.{ℕ}
 use native.Mathlib.Omega.{arith}
@@ -21,7 +21,7 @@ use Rattle.demands.proofs.Readings.{state_reading, rows_leaves, reads_state, sou
 use Rattle.demands.proofs.Operations.{put_is_here, put_retired_here, delete_is_here, whole_done, whole_refused, done_state}
 
 module _ (pool map : List ℕ) (T : Table) (r : Reading pool map T) where
-  S : State r.sound.n pool (some map) T
+  S : State r.sound.n pool (Some map) T
   S = reads_state pool map r.sound r.exact T r.names r.reads
 
   -- an operation whose plan is not refused is done, one whose plan is refused leaves everything
@@ -66,15 +66,15 @@ module _ (pool map : List ℕ) (T : Table) (r : Reading pool map T) where
       room k v h f (full e new all) = absurd (f (S.table k ∙ new, rows_leaves S r.reads ∙ all))
       room k v h f (does o e p W n spare above) = number_of p
 
-      lacks : (k : ℕ) → T k ≡ none → DeleteIs pool r.sound.n S.t k (delete_plan pool k) → (delete_plan pool k).number ≡ 3
+      lacks : (k : ℕ) → T k ≡ None → DeleteIs pool r.sound.n S.t k (delete_plan pool k) → (delete_plan pool k).number ≡ 3
       lacks k g (absent e new) = number_of e
       lacks k g (deletes o e v p W n found above) =
-          let q : ◌≡◌ {A = Option ℕ} none (some v) = sym g
+          let q : ◌≡◌ {A = Option ℕ} None (Some v) = sym g
           ∙ S.table k
           ∙ found in let z : ◌≡◌ {A = ℕ} 0 1 = cc in absurd (omega arith)
 
-      held : (k v : ℕ) → T k ≡ some v → DeleteIs pool r.sound.n S.t k (delete_plan pool k) → (delete_plan pool k).number ≡ 0
-      held k v g (absent e new) = let q : ◌≡◌ {A = Option ℕ} (some v) none = sym g ∙ S.table k ∙ new in let z : ◌≡◌ {A = ℕ} 0 1 = cc in absurd (omega arith)
+      held : (k v : ℕ) → T k ≡ Some v → DeleteIs pool r.sound.n S.t k (delete_plan pool k) → (delete_plan pool k).number ≡ 0
+      held k v g (absent e new) = let q : ◌≡◌ {A = Option ℕ} (Some v) None = sym g ∙ S.table k ∙ new in let z : ◌≡◌ {A = ℕ} 0 1 = cc in absurd (omega arith)
       held k v g (deletes o e v' p W n found above) = number_of p
 
 pub demand2_holds : Demand2Holds

@@ -1,7 +1,7 @@
 -- Demand 3 holds, for stores that reach memory in order and for any cut that keeps the store that counts in its place.
 -- Assumes nothing.
+use Rattle.std.specs.Prelude.{None, Option, Some}
 use mathlib.Core.Path.{◌≡◌, refl, ap, ◌∙◌, subst}
-use mathlib.Core.Option.{Option, none, some}
 use mathlib.Core.List.{List, ◌∷◌}
 use Prim.Native.Nat.{ℕ, ◌*◌, ◌-◌, ◌<◌}
 use native.Mathlib.Omega.{arith}
@@ -9,8 +9,6 @@ use borrow.Author.Tests.{le-ltb, eq-eqb}
 use lib.ListN.{length, set, replicate, length-set, length-append, length-replicate, get_or-replicate}
 use lib.Seq.{get_or-set_same, get_or-set_other}
 use Rattle.pool.specs.Sizes.{size_of, bytes_of, Sized, Measured}
-use Rattle.pool.specs.declared.Size.{Size}
-use Rattle.pool.specs.declared.Size.TheVariants.{Holds, Wrong}
 use Rattle.pool.specs.Places.{word_at}
 use Rattle.pool.proofs.Sizes.{size_fits}
 use Rattle.tree.specs.Tree.{empty, mult, find}
@@ -35,7 +33,7 @@ pub root_blank : (n : ℕ) (pool : List ℕ) → 1 < length pool → word_at (se
 root_blank n pool l = get_or-set_other (set pool 1 0) 0 1 n 0 (λ z. omega arith) ∙ get_or-set_same pool 1 0 0 l
 
 module _ (n : ℕ) (pool map : List ℕ) (sized : Sized pool n) (bytes : length map ≡ bytes_of n) where
-  blank_state : State n (set (set pool 1 0) 0 n) (some (replicate (length map) 0)) blank
+  blank_state : State n (set (set pool 1 0) 0 n) (Some (replicate (length map) 0)) blank
   unfolding find mult
   blank_state = record {
     pos = sized.some;
@@ -55,23 +53,23 @@ module _ (n : ℕ) (pool map : List ℕ) (sized : Sized pool n) (bytes : length 
     });
   }
     where
-      some_is : {x y : List ℕ} → some x ≡ some y → x ≡ y
+      some_is : {x y : List ℕ} → Some x ≡ Some y → x ≡ y
       some_is e = cc
 
-fresh_state : (n : ℕ) (pool map : List ℕ) → (format_of pool map n).number ≡ 0 → State n (format_of pool map n).pool (some (format_of pool map n).map) blank
+fresh_state : (n : ℕ) (pool map : List ℕ) → (format_of pool map n).number ≡ 0 → State n (format_of pool map n).pool (Some (format_of pool map n).map) blank
 unfolding format_of
 fresh_state n pool map z = go (size_of (length pool) n) refl (size_fits pool n) z
   where
-    go : (s : Size) → s ≡ size_of (length pool) n → Measured pool s → (format_in pool map s).number ≡ 0
-        → State n (format_in pool map s).pool (some (format_in pool map s).map) blank
-    go (Holds m) e sized z = mapped (same? (length map) (bytes_of m))
+    go : (s : Option ℕ) → s ≡ size_of (length pool) n → Measured pool s → (format_in pool map s).number ≡ 0
+        → State n (format_in pool map s).pool (Some (format_in pool map s).map) blank
+    go (Some m) e sized z = mapped (same? (length map) (bytes_of m))
       where
-        mapped : Same? (length map) (bytes_of m) → State n (format_in pool map (Holds m)).pool (some (format_in pool map (Holds m)).map) blank
+        mapped : Same? (length map) (bytes_of m) → State n (format_in pool map (Some m)).pool (Some (format_in pool map (Some m)).map) blank
         mapped (same b q) =
-            rw q (subst (λ (i : ℕ). State i (set (set pool 1 0) 0 m) (some (replicate (length map) 0)) blank) (size_same (length pool) n m e)
+            rw q (subst (λ (i : ℕ). State i (set (set pool 1 0) 0 m) (Some (replicate (length map) 0)) blank) (size_same (length pool) n m e)
             (blank_state m pool map sized b))
         mapped (other b q) = absurd (omega (arith, rw q at z))
-    go Wrong e sized z = absurd (omega (arith, z))
+    go None e sized z = absurd (omega (arith, z))
 
 -- every capacity has one
 pub begins : Begins
@@ -81,7 +79,7 @@ begins n pool map one most words bytes f e =
 
 -- ---- a map that is lost, and openings
 module _ {n : ℕ} {pool : List ℕ} {T : Table} where
-  unmapped : {map : Option (List ℕ)} → State n pool map T → State n pool none T
+  unmapped : {map : Option (List ℕ)} → State n pool map T → State n pool None T
   unmapped S = record {
     pos = S.pos;
     cap = S.cap;
@@ -92,7 +90,7 @@ module _ {n : ℕ} {pool : List ℕ} {T : Table} where
     marks = λ b e. let z : ◌≡◌ {A = ℕ} 0 1 = cc in absurd (omega arith);
   }
 
-  reopened : State n pool none T → (k : ℕ) → State n (open_steps k pool) none T
+  reopened : State n pool None T → (k : ℕ) → State n (open_steps k pool) None T
   reopened S k = record {
     pos = S.pos;
     cap = S.cap;
@@ -103,7 +101,7 @@ module _ {n : ℕ} {pool : List ℕ} {T : Table} where
     marks = S.marks;
   }
 
-  pub open_state : State n pool none T → (bytes : List ℕ) → length bytes ≡ bytes_of n → State n (open_of pool bytes).pool (some (open_of pool bytes).map) T
+  pub open_state : State n pool None T → (bytes : List ℕ) → length bytes ≡ bytes_of n → State n (open_of pool bytes).pool (Some (open_of pool bytes).map) T
   open_state S bytes e = rw (open_is n S.pos S.cap S.t pool S.holds bytes e) (record {
     pos = S.pos;
     cap = S.cap;
@@ -114,7 +112,7 @@ module _ {n : ℕ} {pool : List ℕ} {T : Table} where
     marks = λ b q. subst (λ (l : List ℕ). Marked n l S.t) (some_is q) (reached_marked n S.pos S.cap S.t pool S.holds);
   })
     where
-      some_is : {x y : List ℕ} → some x ≡ some y → x ≡ y
+      some_is : {x y : List ℕ} → Some x ≡ Some y → x ≡ y
       some_is e = cc
 
 -- ---- what is promised of a state
@@ -126,7 +124,7 @@ promised {n = n} {pool = pool} {T = T} S = record {
 }
 
 -- ---- every state that is reached
-pub stores_some : {n : ℕ} {pool map : List ℕ} {T : Table} (S : State n pool (some map) T) (o : Op) → (planned o pool map).number ≡ 0
+pub stores_some : {n : ℕ} {pool map : List ℕ} {T : Table} (S : State n pool (Some map) T) (o : Op) → (planned o pool map).number ≡ 0
     → 0 < length (planned o pool map).stores
 stores_some S o z =
     let U = turns S o z in
@@ -135,7 +133,7 @@ stores_some S o z =
 pub reach_state : (g : Generation) {B : List ℕ → Type 0} {n : ℕ} {pool : List ℕ} {map : Option (List ℕ)} {T : Table} → Reach B g n pool map T
     → State n pool map T
 reach_state g {n = n} (fresh pool map z) = fresh_state n pool map z
-reach_state g (existing {pool = pool} {T = T} s e b ok r) = subst (λ (m : ℕ). State m pool none T) e (existing_state pool s T ok r)
+reach_state g (existing {pool = pool} {T = T} s e b ok r) = subst (λ (m : ℕ). State m pool None T) e (existing_state pool s T ok r)
 reach_state g (done o w r z) = done_state (reach_state g r) o z
 reach_state g (stepped o r z) = stepped_state (reach_state g r) g o z
 reach_state g (refused o w r z) = refused_state (reach_state g r) o z

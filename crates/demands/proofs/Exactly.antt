@@ -1,5 +1,6 @@
 -- How an answer is shown to have its cause and no other: every cause leads to it, and there is a cause. Sizes are judged first.
 -- Assumes nothing.
+use Rattle.std.specs.Prelude.{None, Option, Some}
 use mathlib.Core.Path.{◌≡◌, refl, sym, ap, ◌∙◌, subst}
 use mathlib.Core.Logic.{◌↔◌, ◌⊎◌, inl, inr, ⊎_elim}
 use mathlib.Core.List.{List}
@@ -10,14 +11,12 @@ use lib.Dec.{eqb}
 use lib.ListN.{length}
 use Rattle.digits.specs.Choice.{pick}
 use Rattle.pool.specs.Sizes.{capacity_of, bytes_of}
-use Rattle.pool.specs.declared.Size.{Size}
-use Rattle.pool.specs.declared.Size.TheVariants.{Holds, Wrong}
 use Rattle.plan.specs.Plans.{adr, eadr, Decided, refused, decided_for}
 use Rattle.tree.proofs.Basics.{Same?, same, other as differs, same?}
 use Rattle.demands.specs.Causes.{Exactly, Asks, so, not_so, Fits, FitsMap, After, wrong, right, Retires, retired, other, Generations, unknown, known}
 use Rattle.demands.proofs.Ways.{fits_holds, holds_fits}
 
-pub wrong_holds : {s : Size} {n : ℕ} → s ≡ Wrong → s ≡ Holds n → ⊥
+pub wrong_holds : {s : Option ℕ} {n : ℕ} → s ≡ None → s ≡ Some n → ⊥
 wrong_holds p q = let z : ◌≡◌ {A = ℕ} 0 1 = cc in omega arith
 
 -- an answer to which every cause leads has its cause and no other, if there is a cause at all
@@ -42,27 +41,27 @@ after {A} {one} {x} S C s g = exactly (After one S C) (there s) (back s)
     back (unfit u h) a (wrong u') = h
 
 -- the pool's, and the map's where one is lent; an answer is read off what a call comes to by the pool's size
-module _ {A B : Type 0} (read : B → A) (one : B) (C : ℕ → A → Type 0) (pool : List ℕ) (f : Size → B) (z : f Wrong ≡ one) where
-  pub after_pool : ((n : ℕ) → Fits pool n → Exactly (read (f (Holds n))) (C n)) → Exactly (read (f (capacity_of pool))) (After (read one) (Fits pool) C)
+module _ {A B : Type 0} (read : B → A) (one : B) (C : ℕ → A → Type 0) (pool : List ℕ) (f : Option ℕ → B) (z : f None ≡ one) where
+  pub after_pool : ((n : ℕ) → Fits pool n → Exactly (read (f (Some n))) (C n)) → Exactly (read (f (capacity_of pool))) (After (read one) (Fits pool) C)
   after_pool g = after (Fits pool) C (judge (capacity_of pool) refl) (λ n h. rw (fits_holds h) (g n h))
     where
-      judge : (s : Size) → capacity_of pool ≡ s → Judged (Fits pool) (read one) (read (f (capacity_of pool)))
-      judge (Holds n) e = fit n (holds_fits e)
-      judge Wrong e = unfit (λ n h. wrong_holds e (fits_holds h)) (rw (e, z))
+      judge : (s : Option ℕ) → capacity_of pool ≡ s → Judged (Fits pool) (read one) (read (f (capacity_of pool)))
+      judge (Some n) e = fit n (holds_fits e)
+      judge None e = unfit (λ n h. wrong_holds e (fits_holds h)) (rw (e, z))
 
-  pub after_map : (bytes : List ℕ) (d : ℕ → B) → ((n : ℕ) → f (Holds n) ≡ pick (eqb (length bytes) (bytes_of n)) (d n) one)
+  pub after_map : (bytes : List ℕ) (d : ℕ → B) → ((n : ℕ) → f (Some n) ≡ pick (eqb (length bytes) (bytes_of n)) (d n) one)
       → ((n : ℕ) → Fits pool n → Exactly (read (d n)) (C n)) → Exactly (read (f (capacity_of pool))) (After (read one) (FitsMap pool bytes) C)
   after_map bytes d h g =
       after (FitsMap pool bytes) C (judge (capacity_of pool) refl)
       (λ n m. rw (fits_holds m.0, h n, eq-eqb (length bytes) (bytes_of n) m.1) (g n m.0))
     where
-      long : (n : ℕ) → capacity_of pool ≡ Holds n → Same? (length bytes) (bytes_of n) → Judged (FitsMap pool bytes) (read one) (read (f (capacity_of pool)))
+      long : (n : ℕ) → capacity_of pool ≡ Some n → Same? (length bytes) (bytes_of n) → Judged (FitsMap pool bytes) (read one) (read (f (capacity_of pool)))
       long n e (same l q) = fit n (holds_fits e, l)
       long n e (differs l q) = unfit (λ m k. l (k.1 ∙ ap bytes_of (sym k.0.1 ∙ (holds_fits e).1))) (rw (e, h n, q))
 
-      judge : (s : Size) → capacity_of pool ≡ s → Judged (FitsMap pool bytes) (read one) (read (f (capacity_of pool)))
-      judge (Holds n) e = long n e (same? (length bytes) (bytes_of n))
-      judge Wrong e = unfit (λ n k. wrong_holds e (fits_holds k.0)) (rw (e, z))
+      judge : (s : Option ℕ) → capacity_of pool ≡ s → Judged (FitsMap pool bytes) (read one) (read (f (capacity_of pool)))
+      judge (Some n) e = long n e (same? (length bytes) (bytes_of n))
+      judge None e = unfit (λ n k. wrong_holds e (fits_holds k.0)) (rw (e, z))
 
 -- a call that asks one thing has one answer
 pub asked : {P : Type 0} {k x : ℕ} → Asks P k x → Exactly x (Asks P k)

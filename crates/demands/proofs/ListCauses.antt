@@ -1,9 +1,9 @@
 -- A listing's answer and its cause, in a pool of n leaves.
 -- Assumes nothing.
+use Rattle.std.specs.Prelude.{Some, Option, None}
 use mathlib.Core.Path.{◌≡◌, refl, sym, ap, ◌∙◌}
 use mathlib.Core.Bool.{Bool, true, false}
 use mathlib.Core.Logic.{◌≢◌, inl, inr}
-use mathlib.Core.Option.{Option, none, some}
 use mathlib.Core.List.{List, [], ◌∷◌, ◌++◌, map}
 use Prim.Native.Nat.{ℕ, zero, suc, ◌+◌, ◌≤◌, ◌<◌}
 use native.Mathlib.Decide.{dec_lt, dec_le}
@@ -14,7 +14,6 @@ use lib.ListN.{length, length-set}
 use Rattle.digits.specs.Choice.{pick}
 use Rattle.digits.specs.Loops.{upto}
 use Rattle.pool.specs.Places.{word_at, key_at, value_at, child_at, child_word}
-use Rattle.pool.specs.declared.Size.TheVariants.{Holds}
 use Rattle.tree.proofs.Basics.{Same?, same, other, same?}
 use Rattle.walk.specs.Walks.{children_of}
 use Rattle.listing.specs.Listings.{Visit, state, visit, spoilt, leaf_of, visit_from, Told, listed, judged, list_in}
@@ -26,21 +25,21 @@ use Rattle.demands.proofs.Ways.{empty, leaf, broken, node, kind, accepted, broke
 module _ (pool : List ℕ) (n from : ℕ) where
   -- ---- a visit that meets one thing after the other
   meet : Option ℕ → Visit → Visit
-  meet none v = pick (eqb v.state.phase 0) (spoilt v) v
-  meet (some l) v = pick (eqb v.state.phase 0) (leaf_of n from (key_at pool l) (value_at pool l) v) v
+  meet None v = pick (eqb v.state.phase 0) (spoilt v) v
+  meet (Some l) v = pick (eqb v.state.phase 0) (leaf_of n from (key_at pool l) (value_at pool l) v) v
 
   meets : List (Option ℕ) → Visit → Visit
   meets [] v = v
   meets (x ∷ items) v = meets items (meet x v)
 
-  damage_met : {v : Visit} → v.state.phase ≡ 0 → spoilt v ≡ meet none v
+  damage_met : {v : Visit} → v.state.phase ≡ 0 → spoilt v ≡ meet None v
   unfolding meet
   damage_met {v} h = rw (eq-eqb v.state.phase 0 h)
 
   meet_over : (x : Option ℕ) {v : Visit} → v.state.phase ≢ 0 → meet x v ≡ v
   unfolding meet
-  meet_over none {v} h = rw (ne_eqb v.state.phase 0 h)
-  meet_over (some l) {v} h = rw (ne_eqb v.state.phase 0 h)
+  meet_over None {v} h = rw (ne_eqb v.state.phase 0 h)
+  meet_over (Some l) {v} h = rw (ne_eqb v.state.phase 0 h)
 
   meets_over : (items : List (Option ℕ)) {v : Visit} → v.state.phase ≢ 0 → meets items v ≡ v
   unfolding meets
@@ -116,7 +115,7 @@ module _ (pool : List ℕ) (n from : ℕ) where
 
     -- one leaf more
     leaf_met_lem : (l : ℕ) {v : Visit} {m c : ℕ} → Going v m c → m < n → c + pick (leb from (key_at pool l)) 1 0 ≤ room
-        → Going (meet (some l) v) (m + 1) (c + pick (leb from (key_at pool l)) 1 0)
+        → Going (meet (Some l) v) (m + 1) (c + pick (leb from (key_at pool l)) 1 0)
     unfolding meet leaf_of
     leaf_met_lem l {v} {m} {c} G h r = go (dec_lt (key_at pool l) from)
       where
@@ -126,7 +125,7 @@ module _ (pool : List ℕ) (n from : ℕ) where
         on : eqb v.state.phase 0 ≡ true
         on = eq-eqb v.state.phase 0 G.phase≡
 
-        go : Dec (key_at pool l < from) → Going (meet (some l) v) (m + 1) (c + pick (leb from (key_at pool l)) 1 0)
+        go : Dec (key_at pool l < from) → Going (meet (Some l) v) (m + 1) (c + pick (leb from (key_at pool l)) 1 0)
         go (yes g) = rw (on, few, lt-ltb (key_at pool l) from g, lt-leb from (key_at pool l) g)
             (record { phase≡ = refl; met≡ = omega (arith, G.met≡); count≡ = omega (arith, G.count≡); room≡ = G.room≡ })
         go (no g) =
@@ -139,7 +138,7 @@ module _ (pool : List ℕ) (n from : ℕ) where
     counted G p q = record { phase≡ = G.phase≡; met≡ = G.met≡ ∙ p; count≡ = G.count≡ ∙ q; room≡ = G.room≡ }
 
     leaves_met : (ls : List ℕ) {v : Visit} {m c : ℕ} → Going v m c → m + length ls ≤ n → c + fitting pool from ls ≤ room
-        → Going (meets (map some ls) v) (m + length ls) (c + fitting pool from ls)
+        → Going (meets (map Some ls) v) (m + length ls) (c + fitting pool from ls)
     unfolding meets fitting
     leaves_met [] {v} {m} {c} G h r = counted G (omega arith) (omega arith)
     leaves_met (l ∷ ls) {v} {m} {c} G h r =
@@ -162,23 +161,23 @@ module _ (pool : List ℕ) (n from : ℕ) where
       abbrev whole : Visit
       whole = visit_from 17 pool n from 0 (word_at pool 1) v
 
-      gone : (ls : List ℕ) → GoesOn pool n from room ls → Going (meets (map some ls) v) (length ls) (fitting pool from ls)
+      gone : (ls : List ℕ) → GoesOn pool n from room ls → Going (meets (map Some ls) v) (length ls) (fitting pool from ls)
       gone ls g = counted (leaves_met ls start (omega (arith, g.few)) (omega (arith, g.fit))) (omega arith) (omega arith)
 
       -- a visit that is over with what it meets after the leaves ls
-      ended : (ls : List ℕ) (x : Option ℕ) (rest : List (Option ℕ)) (u : Visit) → Meets pool n 1 0 (map some ls ++ x ∷ rest)
-          → meet x (meets (map some ls) v) ≡ u → u.state.phase ≢ 0 → whole ≡ u
+      ended : (ls : List ℕ) (x : Option ℕ) (rest : List (Option ℕ)) (u : Visit) → Meets pool n 1 0 (map Some ls ++ x ∷ rest)
+          → meet x (meets (map Some ls) v) ≡ u → u.state.phase ≢ 0 → whole ≡ u
       unfolding meets
       ended ls x rest u M e h =
-          visit_meets M v start.phase≡ ∙ meets_append (map some ls) (x ∷ rest) v ∙ ap (meets rest) e ∙ meets_over rest h
+          visit_meets M v start.phase≡ ∙ meets_append (map Some ls) (x ∷ rest) v ∙ ap (meets rest) e ∙ meets_over rest h
 
       visited_is : (a : Told) → Visited pool n from room a → (judged whole).answer ≡ a
       unfolding meet leaf_of
       visited_is a (Visited.all ls M g) = rw (visit_meets M v start.phase≡) (going_answer (gone ls g))
       visited_is a (Visited.further ls l rest M g q f k) =
           let G = gone ls g in
-          let u = meets (map some ls) v in
-          rw (ended ls (some l) rest (visit u.keys u.values (state u.state.count (u.state.met + 1) 1)) M
+          let u = meets (map Some ls) v in
+          rw (ended ls (Some l) rest (visit u.keys u.values (state u.state.count (u.state.met + 1) 1)) M
           (rw (
             G.phase≡,
             lt-leb n u.state.met (omega (arith, G.met≡)),
@@ -188,25 +187,25 @@ module _ (pool : List ℕ) (n from : ℕ) where
           (further_answer _ refl (G.count≡ ∙ f))
       visited_is a (Visited.damage ls rest M g) =
           let G = gone ls g in
-          let u = meets (map some ls) v in
-          rw (ended ls none rest (spoilt u) M (rw G.phase≡) (λ z. omega arith)) (damaged_answer (spoilt u) refl)
+          let u = meets (map Some ls) v in
+          rw (ended ls None rest (spoilt u) M (rw G.phase≡) (λ z. omega arith)) (damaged_answer (spoilt u) refl)
       visited_is a (Visited.more ls l rest M g q) =
           let G = gone ls g in
-          let u = meets (map some ls) v in
-          rw (ended ls (some l) rest (spoilt u) M (rw (G.phase≡, le-leb n u.state.met (omega (arith, G.met≡)))) (λ z. omega arith))
+          let u = meets (map Some ls) v in
+          rw (ended ls (Some l) rest (spoilt u) M (rw (G.phase≡, le-leb n u.state.met (omega (arith, G.met≡)))) (λ z. omega arith))
           (damaged_answer (spoilt u) refl)
 
     -- ---- every visit ends in one of these ways
     -- where m leaves were met and c handed out before
     data Ends (m c : ℕ) : List (Option ℕ) → Type 0 where
-      in_all : (ls : List ℕ) → m + length ls ≤ n → c + fitting pool from ls ≤ room → Ends m c (map some ls)
+      in_all : (ls : List ℕ) → m + length ls ≤ n → c + fitting pool from ls ≤ room → Ends m c (map Some ls)
       in_further : (ls : List ℕ) (l : ℕ) (rest : List (Option ℕ)) → m + length ls < n → c + fitting pool from ls ≡ room → from ≤ key_at pool l
-          → Ends m c (map some ls ++ some l ∷ rest)
-      in_damage : (ls : List ℕ) (rest : List (Option ℕ)) → m + length ls ≤ n → c + fitting pool from ls ≤ room → Ends m c (map some ls ++ none ∷ rest)
+          → Ends m c (map Some ls ++ Some l ∷ rest)
+      in_damage : (ls : List ℕ) (rest : List (Option ℕ)) → m + length ls ≤ n → c + fitting pool from ls ≤ room → Ends m c (map Some ls ++ None ∷ rest)
       in_more : (ls : List ℕ) (l : ℕ) (rest : List (Option ℕ)) → m + length ls ≡ n → c + fitting pool from ls ≤ room
-          → Ends m c (map some ls ++ some l ∷ rest)
+          → Ends m c (map Some ls ++ Some l ∷ rest)
 
-    ends_later : (l : ℕ) {m c : ℕ} {items : List (Option ℕ)} → Ends (m + 1) (c + pick (leb from (key_at pool l)) 1 0) items → Ends m c (some l ∷ items)
+    ends_later : (l : ℕ) {m c : ℕ} {items : List (Option ℕ)} → Ends (m + 1) (c + pick (leb from (key_at pool l)) 1 0) items → Ends m c (Some l ∷ items)
     unfolding fitting
     ends_later l (in_all ls h r) = in_all (l ∷ ls) (omega arith) (omega arith)
     ends_later l (in_further ls k rest h r q) = in_further (l ∷ ls) k rest (omega arith) (omega arith) q
@@ -216,8 +215,8 @@ module _ (pool : List ℕ) (n from : ℕ) where
     ends_some : (items : List (Option ℕ)) (m c : ℕ) → m ≤ n → c ≤ room → Ends m c items
     unfolding fitting
     ends_some [] m c h r = in_all [] (omega arith) (omega arith)
-    ends_some (none ∷ items) m c h r = in_damage [] items (omega arith) (omega arith)
-    ends_some (some l ∷ items) m c h r =
+    ends_some (None ∷ items) m c h r = in_damage [] items (omega arith) (omega arith)
+    ends_some (Some l ∷ items) m c h r =
         elim (dec_lt m n) [
           | yes g ↦ elim (dec_le (c + pick (leb from (key_at pool l)) 1 0) room) [
             | yes q ↦ ends_later l (ends_some items (m + 1) (c + pick (leb from (key_at pool l)) 1 0) (omega arith) q)
@@ -246,11 +245,11 @@ module _ (pool : List ℕ) (n from : ℕ) where
         go (in_more ls l rest h r) M = (_, Visited.more ls l rest M (on ls (omega arith) r) (omega arith))
 
 module _ (pool : List ℕ) (n from : ℕ) (ks vs : List ℕ) where
-  pub list_is : (a : Told) → Listing pool n from (length ks) (length vs) a → (list_in pool from ks vs (Holds n)).answer ≡ a
+  pub list_is : (a : Told) → Listing pool n from (length ks) (length vs) a → (list_in pool from ks vs (Some n)).answer ≡ a
   list_is a (Listing.buffers (inl z)) = rw (eq-eqb (length ks) 0 z)
   list_is a (Listing.buffers (inr h)) = go (same? (length ks) 0)
     where
-      go : Same? (length ks) 0 → (list_in pool from ks vs (Holds n)).answer ≡ listed 6 0 false
+      go : Same? (length ks) 0 → (list_in pool from ks vs (Some n)).answer ≡ listed 6 0 false
       go (same _ q) = rw q
       go (other _ q) = rw (q, ne_eqb (length ks) (length vs) h)
   list_is a (Listing.visited h e D) =

@@ -1,14 +1,13 @@
 -- An opening answers 0 just on sound pools, and leaves a straight one with the same table, an exact map, and nothing to store.
 -- Rests on what a survey sees, and on openings of a pool that holds a tree. Assumes nothing.
+use Rattle.std.specs.Prelude.{Some, Option, None}
 use mathlib.Core.Path.{◌≡◌, sym, ap, ◌∙◌, subst}
-use mathlib.Core.Option.{Option, none}
 use mathlib.Core.List.{List, map}
 use Prim.Native.Nat.{ℕ, ◌+◌, ◌-◌, ◌≤◌}
 use native.Mathlib.Omega.{arith}
 use lib.ListN.{length}
 use Rattle.pool.specs.Sizes.{capacity_of, bytes_of}
 use Rattle.pool.specs.Places.{header_at}
-use Rattle.pool.specs.declared.Size.TheVariants.{Holds}
 use Rattle.digits.specs.Headers.{depth_of}
 use Rattle.tree.specs.Tree.{Tree, node, dep, find, Stands}
 use Rattle.layout.proofs.Held.{node_slot}
@@ -37,10 +36,10 @@ module _ (pool : List ℕ) (n : ℕ) (pos : 1 ≤ n) (cap : n ≤ 1024) (t : Tre
   P' : Pool n pos cap t mended
   P' = (all_mended n pos cap t pool P).pool
 
-  fits : capacity_of pool ≡ Holds n
+  fits : capacity_of pool ≡ Some n
   fits = capacity_is n pos cap t pool P
 
-  fits' : capacity_of mended ≡ Holds n
+  fits' : capacity_of mended ≡ Some n
   fits' = capacity_is n pos cap t mended P'
 
   mended_straight : Straight mended
@@ -68,7 +67,7 @@ module _ (pool : List ℕ) (n : ℕ) (pos : 1 ≤ n) (cap : n ≤ 1024) (t : Tre
       as_before k a =
           subst (λ (o : Option ℕ). Finds o a) (sym (finds_one (T k) (find dig k t) (lookup_of pool k) (r.lookup k) (lookup_held pool n t fits P.held k)))
 
-  read_state : (T : Table) → Names T → Reads pool T → State n pool none T
+  read_state : (T : Table) → Names T → Reads pool T → State n pool None T
   read_state T ok r = record {
     pos = pos;
     cap = cap;

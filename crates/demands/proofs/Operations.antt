@@ -1,9 +1,9 @@
 -- What a put or a delete does to a state, done, refused or cut.
 -- Assumes nothing.
+use Rattle.std.specs.Prelude.{Option, Some, None}
 use mathlib.Core.Path.{◌≡◌, refl, sym, ap, ◌∙◌, subst}
 use mathlib.Core.Bool.{Bool, true, false}
 use mathlib.Core.Logic.{◌≢◌, inl, inr}
-use mathlib.Core.Option.{none, some}
 use mathlib.Core.List.{List, [], ◌∷◌, ◌++◌}
 use Prim.Native.Nat.{ℕ, ◌+◌, ◌-◌, ◌<◌}
 use native.Mathlib.Omega.{arith}
@@ -12,8 +12,6 @@ use lib.ListN.{length, take, length-append}
 use lib.Seq.{take-append-le, take_all}
 use Rattle.digits.specs.Choice.{pick}
 use Rattle.pool.specs.Sizes.{bytes_of}
-use Rattle.pool.specs.declared.Size.{Size}
-use Rattle.pool.specs.declared.Size.TheVariants.{Holds}
 use Rattle.tree.specs.Tree.{Tree, mult, find}
 use Rattle.tree.specs.Changes.{occurs, Adds, Removes}
 use Rattle.tree.specs.Stores.{Store, run, Part, done, made as kept, lost}
@@ -111,7 +109,7 @@ known_number : (g : Generation) → Known (number_of g)
 known_number ADR = inl refl
 known_number EADR = inr refl
 
-module _ {n : ℕ} {pool bytes : List ℕ} {T : Table} (S : State n pool (some bytes) T) where
+module _ {n : ℕ} {pool bytes : List ℕ} {T : Table} (S : State n pool (Some bytes) T) where
   abbrev t : Tree ℕ
   t = S.t
 
@@ -210,12 +208,12 @@ module _ {n : ℕ} {pool bytes : List ℕ} {T : Table} (S : State n pool (some b
   by_plan_whole g (delete k h) =
       delete_carried pool bytes k (λ m e. M.size ∙ ap bytes_of (holds_same (sym (fits S) ∙ e))) (number_of g) (known_number g)
     where
-      holds_same : {i j : ℕ} → ◌≡◌ {A = Size} (Holds i) (Holds j) → i ≡ j
+      holds_same : {i j : ℕ} → ◌≡◌ {A = Option ℕ} (Some i) (Some j) → i ≡ j
       holds_same e = cc
 
   -- all stores made and the map finished: the changed table
   made_state : (o : Op) → (planned o pool bytes).number ≡ 0
-      → State n (made (planned o pool bytes).stores pool) (some (finish_of (planned o pool bytes).effect bytes).left) (effect o T)
+      → State n (made (planned o pool bytes).stores pool) (Some (finish_of (planned o pool bytes).effect bytes).left) (effect o T)
   made_state o z = rw U.plan (record {
     pos = S.pos;
     cap = S.cap;
@@ -230,20 +228,20 @@ module _ {n : ℕ} {pool bytes : List ℕ} {T : Table} (S : State n pool (some b
       U : Turns o n pool t T (planned o pool bytes)
       U = turns o z
 
-      some_is : {x y : List ℕ} → some x ≡ some y → x ≡ y
+      some_is : {x y : List ℕ} → Some x ≡ Some y → x ≡ y
       some_is e = cc
 
-  pub done_state : (o : Op) → (whole o pool bytes).done.number ≡ 0 → State n (whole o pool bytes).pool (some (whole o pool bytes).map) (effect o T)
+  pub done_state : (o : Op) → (whole o pool bytes).done.number ≡ 0 → State n (whole o pool bytes).pool (Some (whole o pool bytes).map) (effect o T)
   done_state o z =
       let p : (planned o pool bytes).number ≡ 0 = sym (whole_number o) ∙ z in
       rw (whole_done o p) (made_state o p)
 
   pub stepped_state : (g : Generation) (o : Op) → (planned o pool bytes).number ≡ 0
-      → State n (by_plan g o pool bytes).pool (some (by_plan g o pool bytes).map) (effect o T)
+      → State n (by_plan g o pool bytes).pool (Some (by_plan g o pool bytes).map) (effect o T)
   stepped_state g o p =
-      subst (λ (l : Left). State n l.pool (some l.map) (effect o T)) (sym (by_plan_whole g o)) (done_state o (whole_number o ∙ p))
+      subst (λ (l : Left). State n l.pool (Some l.map) (effect o T)) (sym (by_plan_whole g o)) (done_state o (whole_number o ∙ p))
 
-  pub refused_state : (o : Op) → ((whole o pool bytes).done.number ≡ 0 → ⊥) → State n (whole o pool bytes).pool (some (whole o pool bytes).map) T
+  pub refused_state : (o : Op) → ((whole o pool bytes).done.number ≡ 0 → ⊥) → State n (whole o pool bytes).pool (Some (whole o pool bytes).map) T
   refused_state o z = rw (whole_refused o (λ p. z (whole_number o ∙ p))) S
 
   -- ---- a cut one
@@ -254,7 +252,7 @@ module _ {n : ℕ} {pool bytes : List ℕ} {T : Table} (S : State n pool (some b
     -- some of the stores, which leave a tree that is a table
     cut_holds : (τ : List Store) (t' : Tree ℕ) (T' : Table) → Part (U.before ++ U.switch ∷ U.rest) τ → Held 16 n (run τ (mem pool)) t'
         → ((k : ℕ) → T' k ≡ find dig k t') → Names T'
-        → State n (made τ pool) none T'
+        → State n (made τ pool) None T'
     cut_holds τ t' T' p H is ok = record {
       pos = S.pos;
       cap = S.cap;
@@ -267,11 +265,11 @@ module _ {n : ℕ} {pool bytes : List ℕ} {T : Table} (S : State n pool (some b
     }
 
     -- before the switch the table is as it was, whichever of the stores are made
-    cut_before : (τ : List Store) → Part U.before τ → State n (made τ pool) none T
+    cut_before : (τ : List Store) → Part U.before τ → State n (made τ pool) None T
     cut_before τ p = cut_holds τ t T (part_first U.before (U.switch ∷ U.rest) τ p) (U.switches.before τ p) S.table S.names
 
     -- from the switch on it is the changed one, whichever of the stores after it are made
-    cut_since : (τ : List Store) → Part U.rest τ → State n (made (U.before ++ U.switch ∷ τ) pool) none (effect o T)
+    cut_since : (τ : List Store) → Part U.rest τ → State n (made (U.before ++ U.switch ∷ τ) pool) None (effect o T)
     cut_since τ p =
         cut_holds (U.before ++ U.switch ∷ τ) U.switches.after (effect o T)
         (part_both U.before (U.switch ∷ U.rest) (U.switch ∷ τ) (kept p)) (U.switches.since τ p)
@@ -309,5 +307,5 @@ module _ {n : ℕ} {pool bytes : List ℕ} {T : Table} (S : State n pool (some b
           (since (delete k h) z τ' (subst (λ (l : List Store). Part l τ') r p))
 
   pub cut_state : (o : Op) (z : (planned o pool bytes).number ≡ 0) {τ : List Store} {b : Bool} → Loosely o (planned o pool bytes).stores τ b
-      → State n (made τ pool) none (pick b (effect o T) T)
-  cut_state o z c = cut_case (λ o τ b. State n (made τ pool) none (pick b (effect o T) T)) cut_before cut_since o z c
+      → State n (made τ pool) None (pick b (effect o T) T)
+  cut_state o z c = cut_case (λ o τ b. State n (made τ pool) None (pick b (effect o T) T)) cut_before cut_since o z c

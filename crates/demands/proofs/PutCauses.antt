@@ -1,9 +1,9 @@
 -- A put's number and its cause, in a pool of n leaves with its map.
 -- Assumes nothing.
+use Rattle.std.specs.Prelude.{Option, None, Some}
 use mathlib.Core.Path.{◌≡◌, refl, sym, ap, ◌∙◌}
 use mathlib.Core.Bool.{Bool, true, false}
 use mathlib.Core.Logic.{◌≢◌, ◌⊎◌, inl, inr}
-use mathlib.Core.Option.{Option, none, some}
 use mathlib.Core.List.{List}
 use Prim.Native.Nat.{ℕ, ◌+◌, ◌<◌}
 use native.Mathlib.Decide.{dec_lt}
@@ -236,8 +236,8 @@ module _ (pool : List ℕ) (n : ℕ) (bytes : List ℕ) where
       where
         below_last_lem : {i w m j : ℕ} → Way pool n key i w m → Accepted pool n i w j → at pool n (chosen pool n key j) ≡ Empty
             → (r : Option ℕ) × Lowest pool n i w r → (x : ℕ) × Put pool n bytes key x
-        below_last_lem W a e (none, L) = (2, Put.lowest W a e L)
-        below_last_lem W a e (some k2, L) = differs_some (Differs.last W a e L)
+        below_last_lem W a e (None, L) = (2, Put.lowest W a e L)
+        below_last_lem W a e (Some k2, L) = differs_some (Differs.last W a e L)
 
         at_empty : {i w m : ℕ} → Way pool n key i w m → at pool n i ≡ Empty → (x : ℕ) × Put pool n bytes key x
         at_empty root e = placed_some (Place.root e)

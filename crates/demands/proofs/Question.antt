@@ -1,8 +1,8 @@
 -- In every state that is reached a name is listed if and only if a lookup opens it, with the same file number: all three answer as the rows of one table.
 -- Assumes nothing.
+use Rattle.std.specs.Prelude.{Option, None, Some}
 use mathlib.Core.Path.{◌≡◌, refl, sym, ap, ◌∙◌}
 use mathlib.Core.Logic.{◌↔◌, ◌⊎◌, inl, inr}
-use mathlib.Core.Option.{Option, none, some}
 use mathlib.Core.List.{List, [], ◌∷◌, ◌++◌, map}
 use Prim.Native.Nat.{ℕ, zero, suc, ◌≤◌, ◌<◌}
 use native.Mathlib.Nat.{le_of_suc-le-suc, not-suc-le-zero}
@@ -36,21 +36,21 @@ every_at P [] i h g = absurd (not-suc-le-zero h)
 every_at P (x ∷ rows) zero h g = g.0
 every_at P (x ∷ rows) (suc i) h g = every_at P rows i (le_of_suc-le-suc h) g.1
 
-look_row : (rows : List (Entry ℕ)) (k v : ℕ) → look k rows ≡ some v → Row rows k v
+look_row : (rows : List (Entry ℕ)) (k v : ℕ) → look k rows ≡ Some v → Row rows k v
 unfolding look
 look_row [] k v e = let z : ◌≡◌ {A = ℕ} 0 1 = cc in absurd (omega arith)
 look_row (x ∷ rows) k v e = go (look_row rows k v) (same? k x.key)
   where
-    go : (look k rows ≡ some v → Row rows k v) → Same? k x.key → Row (x ∷ rows) k v
-    go ih (same p q) = let z : some x.value ≡ some v = rw q at e in (0, omega arith, sym p, cc)
+    go : (look k rows ≡ Some v → Row rows k v) → Same? k x.key → Row (x ∷ rows) k v
+    go ih (same p q) = let z : Some x.value ≡ Some v = rw q at e in (0, omega arith, sym p, cc)
     go ih (other p q) = let r = ih (rw q at e) in (suc r.0, omega (arith, r.1), r.2, r.3)
 
 -- names rise, so that no other row has that name
 row_look : (rows : List (Entry ℕ)) → Rising rows → (k v i : ℕ) → i < length rows → (get_or rows i nobody).key ≡ k → (get_or rows i nobody).value ≡ v
-    → look k rows ≡ some v
+    → look k rows ≡ Some v
 unfolding look Rising
 row_look [] R k v i h a b = absurd (not-suc-le-zero h)
-row_look (x ∷ rows) R k v zero h a b = rw (eq-eqb k x.key (sym a)) (ap some b)
+row_look (x ∷ rows) R k v zero h a b = rw (eq-eqb k x.key (sym a)) (ap Some b)
 row_look (x ∷ rows) R k v (suc i) h a b =
     rw (ne_eqb k x.key (λ z. omega (arith, a, every_at (λ e. x.key < e.key) rows i (le_of_suc-le-suc h) R.0)))
     (row_look rows R.1 k v i (le_of_suc-le-suc h) a b)
@@ -77,9 +77,9 @@ listed_row rows ks vs room k v =
     )
 
 -- ---- lookup
-openable_found : (o : Option ℕ) (a : Answer) → Finds o a → (v : ℕ) → (o ≡ some v) ↔ Openable a v
-openable_found none a f v = ((λ e. let z : ◌≡◌ {A = ℕ} 0 1 = cc in absurd (omega arith)), (λ e. absurd (omega (arith, e.0, f.0))))
-openable_found (some u) a f v = ((λ e. let q : u ≡ v = cc in (f.0, f.1 ∙ q)), (λ e. ap some (sym f.1 ∙ e.1)))
+openable_found : (o : Option ℕ) (a : Answer) → Finds o a → (v : ℕ) → (o ≡ Some v) ↔ Openable a v
+openable_found None a f v = ((λ e. let z : ◌≡◌ {A = ℕ} 0 1 = cc in absurd (omega arith)), (λ e. absurd (omega (arith, e.0, f.0))))
+openable_found (Some u) a f v = ((λ e. let q : u ≡ v = cc in (f.0, f.1 ∙ q)), (λ e. ap Some (sym f.1 ∙ e.1)))
 
 by_either : {pool : List ℕ} {T : Table} → Reads pool T → (k : ℕ) {a : Answer} → LookupGives pool k a ⊎ QuickGives pool k a → Finds (T k) a
 by_either R k (inl e) = rw e (R.lookup k)

@@ -1,15 +1,14 @@
 -- A state is a reading: its pool is sound, lookup and listing answer as its table, and its map is exact. And each reading is a state.
 -- Assumes nothing.
+use Rattle.std.specs.Prelude.{Some, Option, None}
 use mathlib.Core.Path.{◌≡◌, refl, sym, ap, ◌∙◌, subst}
 use mathlib.Core.Logic.{◌⊎◌, inl, inr}
-use mathlib.Core.Option.{Option, none, some}
 use mathlib.Core.List.{List}
 use Prim.Native.Nat.{ℕ, ◌≤◌, ◌<◌}
 use native.Mathlib.Omega.{arith}
 use lib.ListN.{length, get_or}
 use Rattle.pool.specs.Sizes.{capacity_of, bytes_of, Sized, Measured}
 use Rattle.pool.specs.Places.{word_at}
-use Rattle.pool.specs.declared.Size.TheVariants.{Holds}
 use Rattle.pool.proofs.Sizes.{size_fits}
 use Rattle.tree.specs.Tree.{Tree, mult, find, leaves}
 use Rattle.tree.specs.Listing.{entries}
@@ -85,7 +84,7 @@ module _ {n : ℕ} {pool : List ℕ} {map : Option (List ℕ)} {T : Table} (S : 
       ap length (rising_decided r.rows (entries S.t) r.written.rising R.0 (λ k. r.written.same k ∙ S.table k ∙ sym (R.1 k)))
       ∙ entries_length S.t
 
-pub state_reading : {n : ℕ} {pool bytes : List ℕ} {T : Table} → State n pool (some bytes) T → Reading pool bytes T
+pub state_reading : {n : ℕ} {pool bytes : List ℕ} {T : Table} → State n pool (Some bytes) T → Reading pool bytes T
 state_reading {n = n} {pool = pool} {bytes = bytes} S = record {
   sound = state_sound S;
   names = S.names;
@@ -96,7 +95,7 @@ state_reading {n = n} {pool = pool} {bytes = bytes} S = record {
 
 -- ---- from a reading to a state
 -- a pool of some capacity that holds a tree
-pub pool_is : (pool : List ℕ) (n : ℕ) (t : Tree ℕ) → capacity_of pool ≡ Holds n → Held 16 n (mem pool) t
+pub pool_is : (pool : List ℕ) (n : ℕ) (t : Tree ℕ) → capacity_of pool ≡ Some n → Held 16 n (mem pool) t
     → (pos : 1 ≤ n) × (cap : n ≤ 1024) × Pool n pos cap t pool
 unfolding capacity_of
 pool_is pool n t e H =
@@ -105,10 +104,10 @@ pool_is pool n t e H =
 
 -- one answer is of one table
 pub finds_one : (a b : Option ℕ) (r : Answer) → Finds a r → Finds b r → a ≡ b
-finds_one none none r p q = refl
-finds_one none (some v) r p q = absurd (omega (arith, p.0, q.0))
-finds_one (some u) none r p q = absurd (omega (arith, p.0, q.0))
-finds_one (some u) (some v) r p q = ap some (sym p.1 ∙ q.1)
+finds_one None None r p q = refl
+finds_one None (Some v) r p q = absurd (omega (arith, p.0, q.0))
+finds_one (Some u) None r p q = absurd (omega (arith, p.0, q.0))
+finds_one (Some u) (Some v) r p q = ap Some (sym p.1 ∙ q.1)
 
 module _ (pool : List ℕ) (s : Sound pool) where
   abbrev T₀ : Tree ℕ
@@ -117,7 +116,7 @@ module _ (pool : List ℕ) (s : Sound pool) where
   H₀ : Held 16 s.n (mem pool) T₀
   H₀ = (sound_holds pool s).1
 
-  sound_state : (map : Option (List ℕ)) → ((b : List ℕ) → map ≡ some b → Marked s.n b T₀) → (T : Table) → ((k : ℕ) → T k ≡ find dig k T₀) → Names T
+  sound_state : (map : Option (List ℕ)) → ((b : List ℕ) → map ≡ Some b → Marked s.n b T₀) → (T : Table) → ((k : ℕ) → T k ≡ find dig k T₀) → Names T
       → State s.n pool map T
   sound_state map M T is ok =
       let P = pool_is pool s.n T₀ s.size H₀ in
@@ -128,21 +127,21 @@ module _ (pool : List ℕ) (s : Sound pool) where
   read_table T r k = finds_one (T k) (find dig k T₀) (lookup_of pool k) (r.lookup k) (lookup_held pool s.n T₀ s.size H₀ k)
 
   -- without its map
-  pub existing_state : (T : Table) → Names T → Reads pool T → State s.n pool none T
-  existing_state T ok r = sound_state none (λ b e. let z : ◌≡◌ {A = ℕ} 0 1 = cc in absurd (omega arith)) T (read_table T r) ok
+  pub existing_state : (T : Table) → Names T → Reads pool T → State s.n pool None T
+  existing_state T ok r = sound_state None (λ b e. let z : ◌≡◌ {A = ℕ} 0 1 = cc in absurd (omega arith)) T (read_table T r) ok
 
 module _ (pool bytes : List ℕ) (s : Sound pool) (E : Exact pool s.n bytes) where
-  mapped : (b : List ℕ) → some bytes ≡ some b → Marked s.n b (T₀ pool s)
+  mapped : (b : List ℕ) → Some bytes ≡ Some b → Marked s.n b (T₀ pool s)
   mapped b e = subst (λ (l : List ℕ). Marked s.n l (T₀ pool s)) (some_is e) (exact_marked pool bytes s.n (T₀ pool s) (H₀ pool s) E)
     where
-      some_is : {x y : List ℕ} → some x ≡ some y → x ≡ y
+      some_is : {x y : List ℕ} → Some x ≡ Some y → x ≡ y
       some_is e = cc
 
-  pub reads_state : (T : Table) → Names T → Reads pool T → State s.n pool (some bytes) T
-  reads_state T ok r = sound_state pool s (some bytes) mapped T (read_table pool s T r) ok
+  pub reads_state : (T : Table) → Names T → Reads pool T → State s.n pool (Some bytes) T
+  reads_state T ok r = sound_state pool s (Some bytes) mapped T (read_table pool s T r) ok
 
   -- a sound pool of words reads as a table
   pub sound_reads : Words pool → (T : Table) × Reading pool bytes T
   sound_reads words =
       let T : Table = λ k. find dig k (T₀ pool s) in
-      (T, state_reading (sound_state pool s (some bytes) mapped T (λ k. refl) (names_held pool s.n words (T₀ pool s) (H₀ pool s))))
+      (T, state_reading (sound_state pool s (Some bytes) mapped T (λ k. refl) (names_held pool s.n words (T₀ pool s) (H₀ pool s))))

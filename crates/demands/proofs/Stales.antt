@@ -1,8 +1,8 @@
 -- In every state that demand 3 reaches at most one header is stale; where there is a map none is.
 -- Assumes nothing.
+use Rattle.std.specs.Prelude.{None, Option, Some}
 use mathlib.Core.Path.{◌≡◌, refl, sym, ap, ◌∙◌, subst}
 use mathlib.Core.Bool.{Bool}
-use mathlib.Core.Option.{Option, none, some}
 use mathlib.Core.List.{List, ◌∷◌, ◌++◌}
 use Prim.Native.Nat.{ℕ, ◌+◌, ◌-◌, ◌<◌}
 use native.Mathlib.Omega.{arith}
@@ -10,8 +10,6 @@ use lib.ListN.{length}
 use Rattle.pool.specs.Sizes.{size_of, capacity_of, bytes_of, Measured}
 use Rattle.pool.specs.Places.{word_at, node_word}
 use Rattle.pool.specs.Refs.{ref_of}
-use Rattle.pool.specs.declared.Size.{Size}
-use Rattle.pool.specs.declared.Size.TheVariants.{Holds, Wrong}
 use Rattle.pool.specs.declared.Ref.TheVariants.{Empty, Node}
 use Rattle.pool.proofs.Sizes.{size_fits}
 use Rattle.tree.specs.Tree.{Tree}
@@ -50,12 +48,12 @@ Only n pool = (y : ℕ) × ((j : ℕ) → Stale pool n j → j ≡ y)
 record Stales (n : ℕ) (pool : List ℕ) (map : Option (List ℕ)) : Type 0 where
   y : ℕ
   only : (j : ℕ) → Stale pool n j → j ≡ y
-  none_there : (bytes : List ℕ) → map ≡ some bytes → (j : ℕ) → Stale pool n j → ⊥
+  none_there : (bytes : List ℕ) → map ≡ Some bytes → (j : ℕ) → Stale pool n j → ⊥
 
 all_fresh : (n : ℕ) (pool : List ℕ) (map : Option (List ℕ)) → ((j : ℕ) → Stale pool n j → ⊥) → Stales n pool map
 all_fresh n pool map e = record { y = 0; only = λ j S. absurd (e j S); none_there = λ bytes q. e }
 
-unmapped : {n : ℕ} {pool : List ℕ} → Only n pool → Stales n pool none
+unmapped : {n : ℕ} {pool : List ℕ} → Only n pool → Stales n pool None
 unmapped o = record { y = o.0; only = o.1; none_there = λ bytes e. let z : ◌≡◌ {A = ℕ} 0 1 = cc in absurd (omega arith) }
 
 -- ---- a pool whose root is empty has no node
@@ -74,20 +72,20 @@ format_root : (n : ℕ) (pool map : List ℕ) → (format_of pool map n).number 
 unfolding format_of
 format_root n pool map z = go (size_of (length pool) n) (size_fits pool n) z
   where
-    go : (s : Size) → Measured pool s → (format_in pool map s).number ≡ 0 → word_at (format_in pool map s).pool 1 ≡ 0
-    go (Holds m) sized z = mapped (same? (length map) (bytes_of m))
+    go : (s : Option ℕ) → Measured pool s → (format_in pool map s).number ≡ 0 → word_at (format_in pool map s).pool 1 ≡ 0
+    go (Some m) sized z = mapped (same? (length map) (bytes_of m))
       where
-        mapped : Same? (length map) (bytes_of m) → word_at (format_in pool map (Holds m)).pool 1 ≡ 0
+        mapped : Same? (length map) (bytes_of m) → word_at (format_in pool map (Some m)).pool 1 ≡ 0
         mapped (same e q) = rw q (root_blank m pool (omega (arith, sized.words, sized.some)))
         mapped (other e q) = absurd (omega (arith, rw q at z))
-    go Wrong sized z = absurd (omega (arith, z))
+    go None sized z = absurd (omega (arith, z))
 
 -- ---- a pool that an opening has left
-straight_none : (n : ℕ) (pool : List ℕ) → capacity_of pool ≡ Holds n → Straight pool → (j : ℕ) → Stale pool n j → ⊥
+straight_none : (n : ℕ) (pool : List ℕ) → capacity_of pool ≡ Some n → Straight pool → (j : ℕ) → Stale pool n j → ⊥
 straight_none n pool size X j S = X.none_stale j (subst (λ (m : ℕ). Stale pool m j) (sym (sound_capacity pool n X.sound size)) S)
 
 -- ---- puts and deletes
-module _ {n : ℕ} {pool bytes : List ℕ} {T : Table} (S : State n pool (some bytes) T) (clean : (j : ℕ) → Stale pool n j → ⊥) where
+module _ {n : ℕ} {pool bytes : List ℕ} {T : Table} (S : State n pool (Some bytes) T) (clean : (j : ℕ) → Stale pool n j → ⊥) where
   -- the tree is straight
   straight : NoneStale n (mem pool) S.t
   straight = straight_tree pool n (λ x. ⊥) clean S.t S.holds.held
@@ -138,7 +136,7 @@ module _ (g : Generation) where
   reach_stales : {n : ℕ} {pool : List ℕ} {map : Option (List ℕ)} {T : Table} → Reach Straight g n pool map T → Stales n pool map
   reach_stales {n = n} (fresh pool map z) = all_fresh n _ _ (root_empty n (format_of pool map n).pool (format_root n pool map z))
   reach_stales {n = n} (existing {pool = pool} s e b ok r) =
-      all_fresh n _ _ (straight_none n pool (s.size ∙ ap Holds e) b)
+      all_fresh n _ _ (straight_none n pool (s.size ∙ ap Some e) b)
   reach_stales {n = n} (done {pool = pool} {map = map} o w r z) =
       let S = reach_state g r in
       let p : (planned o pool map).number ≡ 0 = sym (whole_number S o) ∙ z in

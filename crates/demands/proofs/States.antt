@@ -1,17 +1,16 @@
 -- The states of demands 2 and 3: a pool of n leaves that holds a tree, the table that the tree is, and its map, where there is one. Stores that leave
 -- a tree, and an effect on the map, lead from state to state.
 -- Assumes nothing.
+use Rattle.std.specs.Prelude.{Some, Option}
 use mathlib.Core.Path.{◌≡◌, refl, sym, ◌∙◌}
 use mathlib.Core.Bool.{true, false}
 use mathlib.Core.Logic.{◌≢◌, ◌⊎◌, inl, inr}
-use mathlib.Core.Option.{Option, some}
 use mathlib.Core.List.{List, [], ◌∷◌}
 use Prim.Native.Nat.{ℕ, ◌+◌, ◌≤◌, ◌<◌}
 use native.Mathlib.Omega.{arith}
 use lib.ListN.{length}
 use Rattle.pool.specs.Sizes.{capacity_of, bytes_of}
 use Rattle.pool.specs.Places.{word_at}
-use Rattle.pool.specs.declared.Size.TheVariants.{Holds}
 use Rattle.tree.specs.Tree.{Tree, mult, find}
 use Rattle.tree.specs.Changes.{occurs}
 use Rattle.tree.specs.Stores.{Store, run}
@@ -39,14 +38,14 @@ pub record State (n : ℕ) (pool : List ℕ) (map : Option (List ℕ)) (T : Tabl
   pub holds : Pool n pos cap t pool
   pub table : (k : ℕ) → T k ≡ find dig k t
   pub names : Names T
-  pub marks : (bytes : List ℕ) → map ≡ some bytes → Marked n bytes t
+  pub marks : (bytes : List ℕ) → map ≡ Some bytes → Marked n bytes t
 
 module _ {n : ℕ} {pool : List ℕ} {map : Option (List ℕ)} {T : Table} (S : State n pool map T) where
-  pub fits : capacity_of pool ≡ Holds n
+  pub fits : capacity_of pool ≡ Some n
   fits = capacity_is n S.pos S.cap S.t pool S.holds
 
   -- the keys of the tree are names
-  pub tree_names : (k v : ℕ) → find dig k S.t ≡ some v → Word k
+  pub tree_names : (k v : ℕ) → find dig k S.t ≡ Some v → Word k
   tree_names k v e = S.names k v (S.table k ∙ e)
 
   -- stores that leave a tree, to words of the pool other than word 0

@@ -1,31 +1,46 @@
 -- Each public call's promise leaves one outcome: it is an equation with what a definition gives. Assumes nothing.
 use mathlib.Core.Path.{◌≡◌, refl, sym, ap, ◌∙◌}
-use mathlib.Core.Bool.{Bool, true, false}
-use lib.Dec.{eqb}
-use Rattle.digits.specs.Choice.{pick}
-use Rattle.plan.specs.declared.Planned.{Planned}
+use Prim.Native.Nat.{ℕ}
+use Rattle.std.specs.Prelude.{Result, Ok, Err}
+use Rattle.refusals.specs.declared.Refusal.{Refusal}
+use Rattle.refusals.specs.Refusals.{number_in}
+use Rattle.refusals.proofs.Numbers.{answer_at, answer_told}
+use Rattle.plan.specs.declared.Plan.{Plan}
+use Rattle.writing.specs.Calls.{done_in}
+use Rattle.opening.specs.declared.mending.Opened.{Opened}
+use Rattle.opening.specs.Openings.{Answer, told}
+use Rattle.plan.specs.Plans.{Planned, outcome}
 use Rattle.finding.proofs.Answers.{told_injective}
-use Rattle.listing.specs.Listings.{Told, numbers}
-use Rattle.listing.specs.declared.Listed.{Listed}
+use Rattle.listing.proofs.Answers.{numbers_injective}
 use Rattle.handing.specs.Plans.{planned_in, HandedOut}
 use Rattle.demands.specs.Unique.{OneOutcome, Unique}
 
 equation : {A : Type 0} (x : A) → OneOutcome (λ a. a ≡ x) x
 equation x = record { met = refl; one = λ a b p q. p ∙ sym q }
 
--- the case of a listing's answer that its numbers tell
-abbrev untold : Told → Listed
-untold t = record { number = t.number; count = t.count; more = eqb t.more 1 }
+-- ---- the answer of the code that numbers tell
+one_told : {A B : Type 0} (tell : A → B) (untell : B → A) → ((a : A) → untell (tell a) ≡ a) → (a b : A) → tell a ≡ tell b → a ≡ b
+one_told tell untell back a b e = sym (back a) ∙ ap untell e ∙ back b
 
-untold_numbers : (a : Listed) → untold (numbers a) ≡ a
-untold_numbers a = ap (λ (m : Bool). record { number = a.number; count = a.count; more = m }) (back a.more)
-  where
-    back : (m : Bool) → eqb (pick m 1 0) 1 ≡ m
-    back true = refl
-    back false = refl
+done_back : (r : Result ℕ Refusal) → answer_at (done_in r).number (done_in r).stores ≡ r
+done_back (Ok n) = refl
+done_back (Err r) = answer_told (Err r) 0
 
-further_one : (a b : Listed) → numbers a ≡ numbers b → a ≡ b
-further_one a b e = sym (untold_numbers a) ∙ ap untold e ∙ untold_numbers b
+opened_at : Answer → Result Opened Refusal
+opened_at a = answer_at a.number (record { keys = a.keys; headers = a.headers })
+
+opened_back : (r : Result Opened Refusal) → opened_at (told r) ≡ r
+unfolding opened_at
+opened_back (Ok a) = refl
+opened_back (Err r) = answer_told (Err r) (record { keys = 0; headers = 0 })
+
+planned_back : (r : Result Plan Refusal) → answer_at (outcome r).number (outcome r).plan ≡ r
+planned_back (Ok p) = refl
+planned_back (Err r) = answer_told (Err r) (outcome (Err r)).plan
+
+finished_back : (r : Result (Unit {0}) Refusal) → answer_at (number_in r) tt ≡ r
+finished_back (Ok u) = refl
+finished_back (Err r) = answer_told (Err r) tt
 
 handed_one : (Gives : Planned → Type 0) (p : Planned) → OneOutcome Gives p → OneOutcome (HandedOut Gives) (planned_in p)
 handed_one Gives p o = record {
@@ -49,7 +64,11 @@ unique = record {
   format = λ pool map n. equation _;
   opening = λ pool map. equation _;
   found = told_injective;
-  further = further_one;
+  further = numbers_injective;
+  made = one_told done_in (λ d. answer_at d.number d.stores) done_back;
+  counted = one_told told opened_at opened_back;
+  planned = one_told outcome (λ p. answer_at p.number p.plan) planned_back;
+  finished = one_told number_in (λ k. answer_at k tt) finished_back;
   plan_put_words = λ pool map k v g. handed_one _ _ (equation _);
   plan_delete_words = λ pool k g. handed_one _ _ (equation _);
   plan_open_words = λ pool g. handed_one _ _ (equation _);

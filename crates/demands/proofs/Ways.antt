@@ -1,9 +1,9 @@
 -- The ways of specs/Ways and the definitions that compute them: where a way leads the definition comes to, and every way leads somewhere.
 -- Assumes nothing.
+use Rattle.std.specs.Prelude.{Result, Err, Ok, Some, Option, None}
 use mathlib.Core.Path.{◌≡◌, refl, sym, ap, ◌∙◌}
 use mathlib.Core.Bool.{true, false}
 use mathlib.Core.Logic.{◌≢◌, ◌⊎◌, inl, inr}
-use mathlib.Core.Option.{Option, none, some}
 use mathlib.Core.List.{List}
 use Prim.Native.Nat.{ℕ, zero, suc, ◌+◌, ◌-◌, ◌*◌, ◌≤◌, ◌<◌}
 use native.Mathlib.Decide.{dec_lt}
@@ -17,7 +17,6 @@ use Rattle.digits.proofs.Loops.{tally_none, tally_some}
 use Rattle.pool.specs.Sizes.{size_of, capacity_of, Sized}
 use Rattle.pool.specs.Places.{word_at, header_at, child_at, node_word, child_word}
 use Rattle.pool.specs.Refs.{Within}
-use Rattle.pool.specs.declared.Size.TheVariants.{Holds}
 use Rattle.pool.specs.declared.Ref.{Ref}
 use Rattle.pool.specs.declared.Ref.TheVariants.{Empty, Leaf, Node, Bad}
 use Rattle.pool.proofs.Sizes.{size_fits}
@@ -29,8 +28,6 @@ use Rattle.walk.specs.Walks as walk
 use Rattle.walk.specs.Ends as walk_end
 use Rattle.walk.specs.declared.Spot.{Spot}
 use Rattle.walk.specs.declared.End.TheVariants.{Stopped, Damaged}
-use Rattle.walk.specs.declared.Lowest.TheVariants.{Key, NoKey}
-use Rattle.walk.specs.declared.Lowest as declared
 use Rattle.walk.specs.declared.Fault.{Fault}
 use Rattle.walk.proofs.Heads.{NoNode, Refused, too_deep}
 use Rattle.walk.proofs.Loops.{scan_true}
@@ -45,16 +42,16 @@ use Rattle.demands.specs.Causes.{Fits}
 use Rattle.demands.specs.Ways.{Broken, bad, low, long, far, Accepted, chosen, Way, root, past, LowestChild, Lowest}
 
 -- ---- sizes
-pub sized_holds : {pool : List ℕ} {n : ℕ} → Sized pool n → size_of (length pool) n ≡ Holds n
+pub sized_holds : {pool : List ℕ} {n : ℕ} → Sized pool n → size_of (length pool) n ≡ Some n
 unfolding size_of
 sized_holds {pool} {n} z =
     rw (le-ltb n 1 z.some, le-ltb 1024 n z.most, eq-eqb (length pool) (19 * n - 15) (omega (arith, z.some, z.words)))
 
-pub fits_holds : {pool : List ℕ} {n : ℕ} → Fits pool n → capacity_of pool ≡ Holds n
+pub fits_holds : {pool : List ℕ} {n : ℕ} → Fits pool n → capacity_of pool ≡ Some n
 unfolding capacity_of
 fits_holds (z, e) = rw e (sized_holds z)
 
-pub holds_fits : {pool : List ℕ} {n : ℕ} → capacity_of pool ≡ Holds n → Fits pool n
+pub holds_fits : {pool : List ℕ} {n : ℕ} → capacity_of pool ≡ Some n → Fits pool n
 unfolding capacity_of
 holds_fits {pool} {n} e = (rw e at (size_fits pool (get_or pool 0 0)), sym (size_same (length pool) (get_or pool 0 0) n (sym e)))
 
@@ -275,9 +272,9 @@ module _ (pool : List ℕ) (n : ℕ) where
         ]
 
   -- what the definition calls what a way down comes to
-  abbrev pub told : Option ℕ → Fault → declared.Lowest
-  told none f = NoKey f
-  told (some k) f = Key k
+  abbrev pub told : Option ℕ → Fault → Result ℕ Fault
+  told None f = Err f
+  told (Some k) f = Ok k
 
   -- the word and the reason where it comes to damage
   pub fault_below : {i w : ℕ} {r : Option ℕ} → Lowest pool n i w r → Fault

@@ -1,14 +1,12 @@
 -- Plans carried out: "One step makes one store. Finishing changes only the named map bytes. The whole call plans, makes all stores and finishes."
 -- Assumes nothing.
-use Rattle.std.specs.Prelude.{◌≡◌, ◌⊎◌, List, ℕ, zero, suc, ◌+◌, ◌-◌, ◌≤◌, ◌<◌, length, take}
+use Rattle.std.specs.Prelude.{◌≡◌, ◌⊎◌, List, ℕ, zero, suc, ◌+◌, ◌-◌, ◌≤◌, ◌<◌, length, take, Some}
 use Rattle.pool.specs.Sizes.{capacity_of, bytes_of}
 use Rattle.pool.specs.Places.{word_at}
 use Rattle.pool.specs.Refs.{ref_of}
-use Rattle.pool.specs.declared.Size.TheVariants.{Holds}
 use Rattle.tree.specs.Stores.{Store}
-use Rattle.plan.specs.Plans.{adr, eadr, made, After, after, step_of}
+use Rattle.plan.specs.Plans.{adr, eadr, made, After, after, step_of, Planned}
 use Rattle.plan.specs.declared.Plan.{Plan}
-use Rattle.plan.specs.declared.Planned.{Planned}
 use Rattle.finishing.specs.Finishes.{finish_of, FinishGives}
 use Rattle.rules.specs.Counts.{put_count, delete_count}
 use Rattle.rules.specs.Puts.{put_plan, PlanPutGives}
@@ -33,7 +31,7 @@ carried_out p pool map =
 
 -- a map of the pool's length, which plan_delete is not lent and delete is
 abbrev pub Mapped : List ℕ → List ℕ → Type 0
-Mapped pool map = (n : ℕ) → capacity_of pool ≡ Holds n → length map ≡ bytes_of n
+Mapped pool map = (n : ℕ) → capacity_of pool ≡ Some n → length map ≡ bytes_of n
 
 -- a plan of one store has one group, and of more everything but the last
 abbrev pub AllButLast : Plan → Type 0
@@ -82,7 +80,7 @@ pub record ByPlan : Type 0 where
   pub open_fences : (pool : List ℕ) (g : ℕ) (p : Planned) → PlanOpenGives pool g p → Fenced g p.plan
   -- 1, 3, 20 or 21 stores of a put, the target of a split being what the last store's word referred to; 1 or 2 of a delete, the other child being the
   -- value of the first store
-  pub put_count_lem : (pool map : List ℕ) (k v g n : ℕ) (p : Planned) → capacity_of pool ≡ Holds n → PlanPutGives pool map k v g p → p.number ≡ 0
+  pub put_count_lem : (pool map : List ℕ) (k v g n : ℕ) (p : Planned) → capacity_of pool ≡ Some n → PlanPutGives pool map k v g p → p.number ≡ 0
       → p.plan.count ≡ put_count p.plan.effect (ref_of n (word_at pool (word_at p.plan.words (p.plan.count - 1))))
-  pub delete_count_lem : (pool : List ℕ) (k g n : ℕ) (p : Planned) → capacity_of pool ≡ Holds n → PlanDeleteGives pool k g p → p.number ≡ 0
+  pub delete_count_lem : (pool : List ℕ) (k g n : ℕ) (p : Planned) → capacity_of pool ≡ Some n → PlanDeleteGives pool k g p → p.number ≡ 0
       → p.plan.count ≡ delete_count p.plan.effect (ref_of n (word_at p.plan.values 0))

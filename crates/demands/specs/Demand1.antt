@@ -5,10 +5,9 @@
 -- Assumes nothing.
 use Rattle.std.specs.Prelude.{◌≡◌, ◌⊎◌, List, [], ◌∷◌, ℕ, ◌≤◌, ◌<◌, length, replicate}
 use Rattle.pool.specs.Places.{word_at}
-use Rattle.plan.specs.Plans.{one_group, plan_of, After, StepGives}
+use Rattle.plan.specs.Plans.{one_group, plan_of, After, StepGives, Planned}
 use Rattle.finishing.specs.Finishes.{FinishGives}
 use Rattle.plan.specs.declared.Plan.{Plan}
-use Rattle.plan.specs.declared.Planned.{Planned}
 use Rattle.plan.specs.declared.Effect.TheVariants.{Nothing}
 use Rattle.finding.specs.Lookups.{Answer, LookupGives, QuickGives}
 use Rattle.listing.specs.Listings.{Shown, ListGives}

@@ -2,8 +2,7 @@
 -- to file number, and each makes exactly the 8-byte stores the rules list, in that order. A new name is refused for room exactly when all N
 -- places are held."
 -- Assumes nothing.
-use Rattle.std.specs.Prelude.{◌≡◌, ◌≢◌, List, ℕ, length}
-use Rattle.std.proofs.Math.Option.{none, some}
+use Rattle.std.specs.Prelude.{◌≡◌, ◌≢◌, List, ℕ, length, None, Some}
 use Rattle.plan.specs.Plans.{made}
 use Rattle.rules.specs.Puts.{put_plan}
 use Rattle.rules.specs.Deletes.{delete_plan}
@@ -35,7 +34,7 @@ pub record Refused (pool map : List ℕ) (number : ℕ) (left : Left) : Type 0 w
 
 -- all N places are held and the name is new
 abbrev pub Full : (pool map : List ℕ) (T : Table) → Reading pool map T → ℕ → Type 0
-Full pool map T r k = (T k ≡ none) × (length r.reads.rows ≡ r.sound.n)
+Full pool map T r k = (T k ≡ None) × (length r.reads.rows ≡ r.sound.n)
 
 pub record Demand2 (pool map : List ℕ) (T : Table) (r : Reading pool map T) : Type 0 where
   -- put: 02 (x): "Puts of file number 0 are refused, for new and held keys alike."
@@ -45,8 +44,8 @@ pub record Demand2 (pool map : List ℕ) (T : Table) (r : Reading pool map T) : 
   pub put_done : (k v : ℕ) → Word k → v ≢ 0 → (Full pool map T r k → ⊥)
       → Done pool map (given k v T) (length (put_plan pool map k v).stores) (made (put_plan pool map k v).stores pool) (put_of pool map k v)
   -- delete: refused with 3 where the name is not held, else done
-  pub delete_absent : (k : ℕ) → Word k → T k ≡ none → Refused pool map 3 (delete_of pool map k)
-  pub delete_done : (k v : ℕ) → Word k → T k ≡ some v
+  pub delete_absent : (k : ℕ) → Word k → T k ≡ None → Refused pool map 3 (delete_of pool map k)
+  pub delete_done : (k v : ℕ) → Word k → T k ≡ Some v
       → Done pool map (without k T) (length (delete_plan pool k).stores) (made (delete_plan pool k).stores pool) (delete_of pool map k)
 
 -- every sound pool with an exact map reads as some table (lookup and listing answer as it), and put and delete answer as it

@@ -3,8 +3,7 @@
 -- moment lookup and listing equal the plain table holding all finished operations, and a cut one wholly or not at all: a put counts from its
 -- last store, a delete from its first. An opening that is lent a map of the right length and is not cut gives 0, and no room is lost then."
 -- Assumes nothing.
-use Rattle.std.specs.Prelude.{◌≡◌, Bool, true, false, List, [], ◌++◌, ℕ, zero, suc, ◌-◌, ◌*◌, ◌≤◌, eqb, length, take, drop}
-use Rattle.std.proofs.Math.Option.{Option, none, some}
+use Rattle.std.specs.Prelude.{◌≡◌, Bool, true, false, List, [], ◌++◌, ℕ, zero, suc, ◌-◌, ◌*◌, ◌≤◌, eqb, length, take, drop, Option, None, Some}
 use Rattle.digits.specs.Choice.{pick}
 use Rattle.tree.specs.Stores.{Store, Part}
 use Rattle.pool.specs.Sizes.{bytes_of}
@@ -97,27 +96,27 @@ MayOpen EADR pool = Unit {0}
 -- a pool of n leaves, its map where there is one, and the plain table of all finished operations and of cut ones that count
 pub data Reach (B : List ℕ → Type 0) (g : Generation) (n : ℕ) : List ℕ → Option (List ℕ) → Table → Type 0 where
   -- "Take a freshly formatted pool and its map."
-  fresh : (pool map : List ℕ) → (format_of pool map n).number ≡ 0 → Reach B g n (format_of pool map n).pool (some (format_of pool map n).map) blank
+  fresh : (pool map : List ℕ) → (format_of pool map n).number ≡ 0 → Reach B g n (format_of pool map n).pool (Some (format_of pool map n).map) blank
   -- 02 (x): "Such entries in existing pools are still found, listed, replaced, deleted and opened." A pool that is there already, of the kind B: it is sound,
   -- reads as a table, and has no map, so that it is opened first.
-  existing : {pool : List ℕ} {T : Table} (s : Sound pool) → s.n ≡ n → B pool → Names T → Reads pool T → Reach B g n pool none T
+  existing : {pool : List ℕ} {T : Table} (s : Sound pool) → s.n ≡ n → B pool → Names T → Reads pool T → Reach B g n pool None T
   -- "Make any sequence of puts and deletes"
-  done : {pool map : List ℕ} {T : Table} (o : Op) → WholeCalls g → Reach B g n pool (some map) T → (whole o pool map).done.number ≡ 0
-      → Reach B g n (whole o pool map).pool (some (whole o pool map).map) (effect o T)
+  done : {pool map : List ℕ} {T : Table} (o : Op) → WholeCalls g → Reach B g n pool (Some map) T → (whole o pool map).done.number ≡ 0
+      → Reach B g n (whole o pool map).pool (Some (whole o pool map).map) (effect o T)
   -- the same by its plan: all steps in order, and the finish
-  stepped : {pool map : List ℕ} {T : Table} (o : Op) → Reach B g n pool (some map) T → (planned o pool map).number ≡ 0
-      → Reach B g n (by_plan g o pool map).pool (some (by_plan g o pool map).map) (effect o T)
-  refused : {pool map : List ℕ} {T : Table} (o : Op) → WholeCalls g → Reach B g n pool (some map) T → ((whole o pool map).done.number ≡ 0 → ⊥)
-      → Reach B g n (whole o pool map).pool (some (whole o pool map).map) T
+  stepped : {pool map : List ℕ} {T : Table} (o : Op) → Reach B g n pool (Some map) T → (planned o pool map).number ≡ 0
+      → Reach B g n (by_plan g o pool map).pool (Some (by_plan g o pool map).map) (effect o T)
+  refused : {pool map : List ℕ} {T : Table} (o : Op) → WholeCalls g → Reach B g n pool (Some map) T → ((whole o pool map).done.number ≡ 0 → ⊥)
+      → Reach B g n (whole o pool map).pool (Some (whole o pool map).map) T
   -- "any of them cut before, between or after its stores" "After a cut the map is lost"
-  cut : {pool map : List ℕ} {T : Table} (o : Op) (τ : List Store) (b : Bool) → Reach B g n pool (some map) T → (planned o pool map).number ≡ 0
-      → cuts_of g o (planned o pool map).stores τ b → Reach B g n (made τ pool) none (pick b (effect o T) T)
-  lost : {pool map : List ℕ} {T : Table} → Reach B g n pool (some map) T → Reach B g n pool none T
+  cut : {pool map : List ℕ} {T : Table} (o : Op) (τ : List Store) (b : Bool) → Reach B g n pool (Some map) T → (planned o pool map).number ≡ 0
+      → cuts_of g o (planned o pool map).stores τ b → Reach B g n (made τ pool) None (pick b (effect o T) T)
+  lost : {pool map : List ℕ} {T : Table} → Reach B g n pool (Some map) T → Reach B g n pool None T
   -- "opening is repeated, itself cut at any store"
-  reopening : {pool : List ℕ} {T : Table} (k : ℕ) → Reach B g n pool none T → Reach B g n (open_steps k pool) none T
+  reopening : {pool : List ℕ} {T : Table} (k : ℕ) → Reach B g n pool None T → Reach B g n (open_steps k pool) None T
   -- "until one finishes"
-  opened : {pool : List ℕ} {T : Table} (bytes : List ℕ) → MayOpen g pool → Reach B g n pool none T → length bytes ≡ bytes_of n
-      → Reach B g n (open_of pool bytes).pool (some (open_of pool bytes).map) T
+  opened : {pool : List ℕ} {T : Table} (bytes : List ℕ) → MayOpen g pool → Reach B g n pool None T → length bytes ≡ bytes_of n
+      → Reach B g n (open_of pool bytes).pool (Some (open_of pool bytes).map) T
 
 -- what is promised of every state that is reached
 pub record Promised (n : ℕ) (pool : List ℕ) (map : Option (List ℕ)) (T : Table) : Type 0 where
@@ -126,7 +125,7 @@ pub record Promised (n : ℕ) (pool : List ℕ) (map : Option (List ℕ)) (T : T
   -- "An opening that is lent a map of the right length and is not cut gives 0"
   pub opens : (bytes : List ℕ) → length bytes ≡ bytes_of n → (open_of pool bytes).answer.number ≡ 0
   -- "and no room is lost then": where there is a map, the pool and the map are as demand 2 asks, with the same table
-  pub room : (bytes : List ℕ) → map ≡ some bytes → (r : Reading pool bytes T) × (r.sound.n ≡ n)
+  pub room : (bytes : List ℕ) → map ≡ Some bytes → (r : Reading pool bytes T) × (r.sound.n ≡ n)
 
 -- sequences begin at a freshly formatted pool, or at any pool that is there already
 abbrev pub Any : List ℕ → Type 0

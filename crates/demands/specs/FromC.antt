@@ -1,9 +1,8 @@
 -- A plan from C: what went out as words comes back as the same plan.
 -- Assumes nothing.
 use Rattle.std.specs.Prelude.{◌≡◌, List, ℕ, length, set}
-use Rattle.plan.specs.Plans.{After, StepGives}
+use Rattle.plan.specs.Plans.{After, StepGives, Planned}
 use Rattle.plan.specs.declared.Plan.{Plan}
-use Rattle.plan.specs.declared.Planned.{Planned}
 use Rattle.finishing.specs.Finishes.{FinishGives}
 use Rattle.rules.specs.Puts.{PlanPutGives}
 use Rattle.rules.specs.Deletes.{PlanDeleteGives}

@@ -2,8 +2,7 @@
 -- which lookup answers otherwise than the table of names. These are computed cases and say nothing of other pools or cuts; what the right lists leave, in
 -- every sound pool and at every cut, the laws of layout say.
 -- Assumes nothing.
-use Rattle.std.specs.Prelude.{Bool, not, List, [], ◌∷◌, ◌++◌, map, ℕ, ◌+◌, ◌-◌, eqb, length, take, drop, replicate}
-use Rattle.std.proofs.Math.Option.{Option, none, some}
+use Rattle.std.specs.Prelude.{Bool, not, List, [], ◌∷◌, ◌++◌, map, ℕ, ◌+◌, ◌-◌, eqb, length, take, drop, replicate, Option, None, Some}
 use Rattle.tree.specs.Stores.{Store}
 use Rattle.plan.specs.Plans.{made}
 use Rattle.finding.specs.Lookups.{Answer, answer, lookup_of}
@@ -104,8 +103,8 @@ same a b = both (eqb a.number b.number) (both (eqb a.value b.value) (eqb a.nodes
 
 -- an answer as a table has it: 0 and the file number of a name that is held, 3 and 0 of one that is not
 abbrev pub finds : Option ℕ → Answer → Bool
-finds (some v) a = both (eqb a.number 0) (eqb a.value v)
-finds none a = both (eqb a.number 3) (eqb a.value 0)
+finds (Some v) a = both (eqb a.number 0) (eqb a.value v)
+finds None a = both (eqb a.number 3) (eqb a.value 0)
 
 -- after the wrong stores lookup gives the answer named here, which is not the table's; after the right ones, at the same cut, it gives the table's
 abbrev pub misleads : Mistake → Bool

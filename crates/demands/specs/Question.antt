@@ -1,7 +1,6 @@
 -- The auditor's question: "Is every name in the listing still openable, and is every openable name in the listing?"
 -- Assumes nothing.
-use Rattle.std.specs.Prelude.{◌≡◌, ◌↔◌, ◌⊎◌, List, ℕ, ◌≤◌, ◌<◌, length}
-use Rattle.std.proofs.Math.Option.{Option}
+use Rattle.std.specs.Prelude.{◌≡◌, ◌↔◌, ◌⊎◌, List, ℕ, ◌≤◌, ◌<◌, length, Option}
 use Rattle.pool.specs.Places.{word_at}
 use Rattle.finding.specs.Lookups.{Answer, LookupGives, QuickGives}
 use Rattle.listing.specs.Listings.{Shown, ListGives}

@@ -1,7 +1,6 @@
 -- The plain table from name number to file number, and what it means that a pool reads as one.
 -- Assumes nothing.
-use Rattle.std.specs.Prelude.{◌≡◌, List, ℕ, ◌<◌, eqb, length}
-use Rattle.std.proofs.Math.Option.{Option, none, some}
+use Rattle.std.specs.Prelude.{◌≡◌, List, ℕ, ◌<◌, eqb, length, Option, None, Some}
 use Rattle.digits.specs.Choice.{pick}
 use Rattle.tree.specs.Listing.{Entry, Rising, look}
 use Rattle.pool.specs.Sizes.{bytes_of}
@@ -17,13 +16,13 @@ Table = ℕ → Option ℕ
 
 -- the table that holds nothing, and a table with one name given a file number, or taken out
 abbrev pub blank : Table
-blank k = none
+blank k = None
 
 abbrev pub given : ℕ → ℕ → Table → Table
-given k v T k' = pick (eqb k' k) (some v) (T k')
+given k v T k' = pick (eqb k' k) (Some v) (T k')
 
 abbrev pub without : ℕ → Table → Table
-without k T k' = pick (eqb k' k) none (T k')
+without k T k' = pick (eqb k' k) None (T k')
 
 -- the table written as a list: its names rising, each with its file number
 pub record Rows (T : Table) (rows : List (Entry ℕ)) : Type 0 where
@@ -32,7 +31,7 @@ pub record Rows (T : Table) (rows : List (Entry ℕ)) : Type 0 where
 
 -- the names of a table are 64-bit numbers
 abbrev pub Names : Table → Type 0
-Names T = (k v : ℕ) → T k ≡ some v → Word k
+Names T = (k v : ℕ) → T k ≡ Some v → Word k
 
 -- lookup, by the plain way and by the quick one, and listing answer as the table, for every name, every start and every two buffers of one length that is not 0
 pub record Reads (pool : List ℕ) (T : Table) : Type 0 where

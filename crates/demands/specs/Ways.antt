@@ -1,8 +1,7 @@
 -- The ways that the rules give through the words of any pool, sound or not, as relations: the walk, the lowest leaf, a listing's visit; and, call by
 -- call, which number each way's end has. They are read apart from the definitions that compute the same.
 -- Assumes nothing.
-use Rattle.std.specs.Prelude.{◌≡◌, Bool, true, false, ◌≢◌, ◌⊎◌, List, [], ◌∷◌, ◌++◌, map, ℕ, zero, suc, ◌+◌, ◌≤◌, ◌<◌, leb, length}
-use Rattle.std.proofs.Math.Option.{Option, none, some}
+use Rattle.std.specs.Prelude.{◌≡◌, Bool, true, false, ◌≢◌, ◌⊎◌, List, [], ◌∷◌, ◌++◌, map, ℕ, zero, suc, ◌+◌, ◌≤◌, ◌<◌, leb, length, Option, None, Some}
 use Rattle.digits.specs.Choice.{pick}
 use Rattle.digits.specs.Digits.{digit_in, digit_of, first_diff}
 use Rattle.digits.specs.Headers.{length_of}
@@ -60,9 +59,9 @@ module _ (pool : List ℕ) (n : ℕ) where
   -- The key of the lowest leaf below the reference at word i, met at walk depth w; none where damage is met. "'Lowest leaf' below a reference
   -- means following the lowest non-empty child each time, under the walk's damage rules; a childless node is damage."
   pub data Lowest : ℕ → ℕ → Option ℕ → Type 0 where
-    leaf : {i w l : ℕ} → at pool n i ≡ Leaf l → Lowest i w (some (key_at pool l))
-    broken : {i w : ℕ} → Broken i w → Lowest i w none
-    childless : {i w j : ℕ} → Accepted i w j → children_of pool n j ≡ 0 → Lowest i w none
+    leaf : {i w l : ℕ} → at pool n i ≡ Leaf l → Lowest i w (Some (key_at pool l))
+    broken : {i w : ℕ} → Broken i w → Lowest i w None
+    childless : {i w j : ℕ} → Accepted i w j → children_of pool n j ≡ 0 → Lowest i w None
     under : {i w j c : ℕ} {r : Option ℕ} → Accepted i w j → LowestChild j c → Lowest (child_word n j c) (branch pool n j + 1) r → Lowest i w r
 
   -- All that a visit of the reference at word i, met at walk depth w, would meet if it did not stop, in order: leaves, and none for damage.
@@ -70,9 +69,9 @@ module _ (pool : List ℕ) (n : ℕ) where
   -- at each visit: the root has w = 0, a node's children w = b+1." "a childless node .. refuses"
   pub data Meets : ℕ → ℕ → List (Option ℕ) → Type 0 where
     empty : {i w : ℕ} → at pool n i ≡ Empty → Meets i w []
-    leaf : {i w l : ℕ} → at pool n i ≡ Leaf l → Meets i w (some l ∷ [])
-    broken : {i w : ℕ} → Broken i w → Meets i w (none ∷ [])
-    childless : {i w j : ℕ} → Accepted i w j → children_of pool n j ≡ 0 → Meets i w (none ∷ [])
+    leaf : {i w l : ℕ} → at pool n i ≡ Leaf l → Meets i w (Some l ∷ [])
+    broken : {i w : ℕ} → Broken i w → Meets i w (None ∷ [])
+    childless : {i w j : ℕ} → Accepted i w j → children_of pool n j ≡ 0 → Meets i w (None ∷ [])
     node : {i w j : ℕ} (items : ℕ → List (Option ℕ)) → Accepted i w j → children_of pool n j ≢ 0
         → ((c : ℕ) → c < 16 → Meets (child_word n j c) (branch pool n j + 1) (items c)) → Meets i w (in_turn 16 items)
 
@@ -121,8 +120,8 @@ module _ (pool : List ℕ) (n : ℕ) where
     -- "2. Its node P has three or more children"
     three : {j : ℕ} → Parent key j → 3 ≤ children_of pool n j → Delete key 0
     -- "3. P has two .. the other child is read under the walk's rules, at depth b+1 of P. Damage anywhere on these ways refuses"
-    two : {j c k2 : ℕ} → Parent key j → children_of pool n j ≡ 2 → Other key j c → Lowest (child_word n j c) (branch pool n j + 1) (some k2) → Delete key 0
-    damaged : {j c : ℕ} → Parent key j → children_of pool n j ≡ 2 → Other key j c → Lowest (child_word n j c) (branch pool n j + 1) none → Delete key 2
+    two : {j c k2 : ℕ} → Parent key j → children_of pool n j ≡ 2 → Other key j c → Lowest (child_word n j c) (branch pool n j + 1) (Some k2) → Delete key 0
+    damaged : {j c : ℕ} → Parent key j → children_of pool n j ≡ 2 → Other key j c → Lowest (child_word n j c) (branch pool n j + 1) None → Delete key 2
     -- "4. P has one: damage."
     one : {j : ℕ} → Parent key j → children_of pool n j ≡ 1 → Delete key 2
 
@@ -130,7 +129,7 @@ module _ (pool : List ℕ) (n : ℕ) where
   -- "let k2 be the key of the leaf reached, or of the lowest leaf below the last node of the walk, and f the first differing digit of k and k2"
   pub data Differs (key : ℕ) : ℕ → Type 0 where
     leaf : {i w m l : ℕ} → Way key i w m → at pool n i ≡ Leaf l → key_at pool l ≢ key → Differs key (first_diff key (key_at pool l))
-    last : {i w m j k2 : ℕ} → Way key i w m → Accepted i w j → at pool n (chosen key j) ≡ Empty → Lowest i w (some k2) → Differs key (first_diff key k2)
+    last : {i w m j k2 : ℕ} → Way key i w m → Accepted i w j → at pool n (chosen key j) ≡ Empty → Lowest i w (Some k2) → Differs key (first_diff key k2)
 
   -- Where a new key goes, and whether a node is needed. "Take the first node of the walk with b >= f": the one with w <= f <= b, since every
   -- node before it branches below w.
@@ -156,7 +155,7 @@ module _ (pool : List ℕ) (n : ℕ) where
     pub data Put (key : ℕ) : ℕ → Type 0 where
       -- "2 | damage met", on the walk or on the lowest way
       walk : {m : ℕ} → Lookup key (answer 2 0 m) → Put key 2
-      lowest : {i w m j : ℕ} → Way key i w m → Accepted i w j → at pool n (chosen key j) ≡ Empty → Lowest i w none → Put key 2
+      lowest : {i w m j : ℕ} → Way key i w m → Accepted i w j → at pool n (chosen key j) ≡ Empty → Lowest i w None → Put key 2
       -- "In all other cases, f = 16 among them: damage."
       no_place : {f : ℕ} → Differs key f → ((needed : Bool) → Place key needed → ⊥) → Put key 2
       -- "Order: .. 2, then 3 or 4"
@@ -174,13 +173,13 @@ module _ (pool : List ℕ) (n : ℕ) where
 
     pub data Visited : Told → Type 0 where
       -- "It hands out leaves with key at or above a given key"
-      all : (ls : List ℕ) → Meets 1 0 (map some ls) → GoesOn ls → Visited (listed 0 (fitting pool from ls) false)
+      all : (ls : List ℕ) → Meets 1 0 (map Some ls) → GoesOn ls → Visited (listed 0 (fitting pool from ls) false)
       -- "until the two lent buffers are full, and says whether a further one was found; there it stops"
-      further : (ls : List ℕ) (l : ℕ) (rest : List (Option ℕ)) → Meets 1 0 (map some ls ++ some l ∷ rest) → GoesOn ls → length ls < n
+      further : (ls : List ℕ) (l : ℕ) (rest : List (Option ℕ)) → Meets 1 0 (map Some ls ++ Some l ∷ rest) → GoesOn ls → length ls < n
           → fitting pool from ls ≡ room → from ≤ key_at pool l → Visited (listed 0 room true)
       -- "Damage met before that, a childless node, or more than N leaves met, judged before that stop, refuses."
-      damage : (ls : List ℕ) (rest : List (Option ℕ)) → Meets 1 0 (map some ls ++ none ∷ rest) → GoesOn ls → Visited (listed 2 0 false)
-      more : (ls : List ℕ) (l : ℕ) (rest : List (Option ℕ)) → Meets 1 0 (map some ls ++ some l ∷ rest) → GoesOn ls → length ls ≡ n
+      damage : (ls : List ℕ) (rest : List (Option ℕ)) → Meets 1 0 (map Some ls ++ None ∷ rest) → GoesOn ls → Visited (listed 2 0 false)
+      more : (ls : List ℕ) (l : ℕ) (rest : List (Option ℕ)) → Meets 1 0 (map Some ls ++ Some l ∷ rest) → GoesOn ls → length ls ≡ n
           → Visited (listed 2 0 false)
 
   -- "6 | listing buffers of length 0 or of unequal length". "Order: 1, 6, 2"

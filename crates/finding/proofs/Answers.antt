@@ -1,24 +1,23 @@
 -- What a lookup and a quick lookup answer for every run of words there is, and that the numbers of an answer tell its case.
 -- Assumes nothing.
+use Rattle.std.specs.Prelude.{None, Option, Some, Result}
 use mathlib.Core.Path.{◌≡◌, refl, sym, ap, ◌∙◌}
 use mathlib.Core.List.{List}
 use Prim.Native.Nat.{ℕ, ◌≤◌}
 use native.Mathlib.Omega.{arith}
 use lib.Dec.{eqb}
-use Rattle.digits.specs.Choice.{pick}
 use Rattle.pool.specs.Sizes.{capacity_of}
 use Rattle.pool.specs.Places.{key_at}
 use Rattle.pool.specs.declared.Ref.TheVariants.{Leaf}
-use Rattle.pool.specs.declared.Size.{Size}
-use Rattle.pool.specs.declared.Size.TheVariants.{Holds, Wrong}
 use Rattle.walk.specs.Walks.{root, never, unlike, walk_of, quick_walk}
 use Rattle.walk.specs.Ends.{met_of}
 use Rattle.walk.specs.declared.End.{End}
 use Rattle.walk.specs.declared.End.TheVariants.{AtLeaf, AtEmpty, Stopped, Damaged}
 use Rattle.walk.proofs.Counts.{walk_few, stopped_fewer}
 use Rattle.walk.proofs.Ends.{Unstopped, walk_unstopped}
+use Rattle.refusals.specs.declared.Refusal.{Refusal}
+use Rattle.refusals.proofs.Numbers.{answer_at, answer_told}
 use Rattle.finding.specs.declared.Found.{Found}
-use Rattle.finding.specs.declared.Found.TheVariants.{Hit, Absent, Met, WrongSize}
 use Rattle.finding.specs.Lookups.{Answer, answer, told, found_end, found_at, found_in, lookup_of, quick_at, quick_in, quick_of}
 use Rattle.digits.proofs.Choice.{pick_case}
 
@@ -53,17 +52,17 @@ module _ (pool : List ℕ) (key : ℕ) where
   unfolding lookup_of
   lookup_answers = go (capacity_of pool)
     where
-      go : (r : Size) → Looks (found_in pool key r)
-      go (Holds n) = at_end (walk_of pool n key) (walk_few pool n key never)
-      go Wrong = size
+      go : (r : Option ℕ) → Looks (found_in pool key r)
+      go (Some n) = at_end (walk_of pool n key) (walk_few pool n key never)
+      go None = size
 
   pub quick_answers : Looks (quick_of pool key)
   unfolding quick_of
   quick_answers = go (capacity_of pool)
     where
-      go : (r : Size) → Looks (quick_in pool key r)
-      go (Holds n) = at_quick_end (quick_walk pool n key) (walk_few pool n key unlike)
-      go Wrong = size
+      go : (r : Option ℕ) → Looks (quick_in pool key r)
+      go (Some n) = at_quick_end (quick_walk pool n key) (walk_few pool n key unlike)
+      go None = size
 
   -- ---- how many nodes are counted
   counted : (i m : ℕ) → (found_end pool key m (Leaf i)).nodes ≡ m
@@ -86,15 +85,15 @@ module _ (pool : List ℕ) (key : ℕ) where
   unfolding lookup_of quick_of
   quick_fewer = go (capacity_of pool)
     where
-      go : (r : Size) → (quick_in pool key r).nodes ≤ (found_in pool key r).nodes
-      go (Holds n) =
+      go : (r : Option ℕ) → (quick_in pool key r).nodes ≤ (found_in pool key r).nodes
+      go (Some n) =
           omega (
             arith,
             quick_counts (quick_walk pool n key),
             found_counts (walk_of pool n key) (walk_unstopped pool n key),
             stopped_fewer pool n key unlike 17 root,
           )
-      go Wrong = omega arith
+      go None = omega arith
 
 few : {a : Answer} → Looks a → a.nodes ≤ 16
 few (done h) = h
@@ -106,18 +105,12 @@ few size = omega arith
 pub lookup_nodes : (pool : List ℕ) (key : ℕ) → (lookup_of pool key).nodes ≤ 16
 lookup_nodes pool key = few (lookup_answers pool key)
 
--- the case that an answer's numbers tell
+-- what an answer's numbers tell
 abbrev untold : Answer → Found
-untold a =
-    pick (eqb a.number 0) (Hit a.value a.nodes)
-    (pick (eqb a.number 3) (Absent a.nodes)
-    (pick (eqb a.number 2) (Met a.nodes) WrongSize))
+untold a = record { value = answer_at a.number a.value; nodes = a.nodes }
 
 untold_told : (f : Found) → untold (told f) ≡ f
-untold_told (Hit v m) = refl
-untold_told (Absent m) = refl
-untold_told (Met m) = refl
-untold_told WrongSize = refl
+untold_told f = ap (λ (r : Result ℕ Refusal). record { value = r; nodes = f.nodes }) (answer_told f.value 0)
 
 pub told_injective : (f g : Found) → told f ≡ told g → f ≡ g
 told_injective f g e = sym (untold_told f) ∙ ap untold e ∙ untold_told g

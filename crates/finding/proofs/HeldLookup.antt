@@ -1,7 +1,7 @@
 -- On a pool that holds a tree, a lookup answers what the tree has for the key, and counts the nodes on the key's way; a quick lookup answers the same.
 -- Assumes nothing.
+use Rattle.std.specs.Prelude.{Some, Option, None}
 use mathlib.Core.Path.{◌≡◌, refl, sym, ap, ◌∙◌}
-use mathlib.Core.Option.{Option, none, some}
 use mathlib.Core.List.{List}
 use Prim.Native.Nat.{ℕ}
 use native.Mathlib.Nat.{zero-add}
@@ -11,7 +11,6 @@ use lib.Dec.{eqb}
 use lib.ListN.{length}
 use Rattle.digits.specs.Choice.{pick}
 use Rattle.pool.specs.Sizes.{capacity_of}
-use Rattle.pool.specs.declared.Size.TheVariants.{Holds}
 use Rattle.tree.specs.Tree.{Tree, empty, leaf, node, On, sub, dep, find}
 use Rattle.tree.specs.Near.{way}
 use Rattle.tree.specs.Shape
@@ -34,14 +33,14 @@ use Rattle.finding.specs.Lookups.{Answer, answer, found_at, lookup_of, quick_at,
 -- ---- what it answers
 -- the value that a key has, or that it has none, in a lookup's numbers, with m nodes passed
 abbrev pub answered : Option ℕ → ℕ → Answer
-answered (some v) m = answer 0 v m
-answered none m = answer 3 0 m
+answered (Some v) m = answer 0 v m
+answered None m = answer 3 0 m
 
 answered_finds : (o : Option ℕ) (m : ℕ) → Finds o (answered o m)
-answered_finds (some v) m = (refl, refl)
-answered_finds none m = (refl, refl)
+answered_finds (Some v) m = (refl, refl)
+answered_finds None m = (refl, refl)
 
-module _ (pool : List ℕ) (n : ℕ) (t : Tree ℕ) (fits : capacity_of pool ≡ Holds n) (H : Held 16 n (mem pool) t) (k : ℕ) where
+module _ (pool : List ℕ) (n : ℕ) (t : Tree ℕ) (fits : capacity_of pool ≡ Some n) (H : Held 16 n (mem pool) t) (k : ℕ) where
   -- what a walk finds that ends at s before the tree u
   end_answers : (s : Spot) (u : Tree ℕ) (w r : ℕ) → Shape.Holds (base 16 n) (mem pool) w r u → NoNode u
       → found_at pool k (end_at n s u) ≡ answered (find dig k u) s.nodes
@@ -52,7 +51,7 @@ module _ (pool : List ℕ) (n : ℕ) (t : Tree ℕ) (fits : capacity_of pool ≡
       see : SeesLeaf n (mem pool) r x k' v
       see = held_leaf pool n w r x k' v h
 
-      go : Same? k k' → found_at pool k (end_at n s (leaf x k' v)) ≡ answered (pick (eqb k k') (some v) none) s.nodes
+      go : Same? k k' → found_at pool k (end_at n s (leaf x k' v)) ≡ answered (pick (eqb k k') (Some v) None) s.nodes
       go (same e q) = rw (q, see.key, see.value, eq-eqb k' k (sym e))
       go (other e q) = rw (q, see.key, ne_eqb k' k (λ z. e (sym z)))
   end_answers s (node x b s' kids) w r h o = absurd o
@@ -89,5 +88,5 @@ module _ (pool : List ℕ) (n : ℕ) (t : Tree ℕ) (fits : capacity_of pool ≡
 
 -- one row of a table has one number and one value
 pub finds_same : (o : Option ℕ) (a b : Answer) → Finds o a → Finds o b → (a.number ≡ b.number) × (a.value ≡ b.value)
-finds_same (some v) a b p q = (p.0 ∙ sym q.0, p.1 ∙ sym q.1)
-finds_same none a b p q = (p.0 ∙ sym q.0, p.1 ∙ sym q.1)
+finds_same (Some v) a b p q = (p.0 ∙ sym q.0, p.1 ∙ sym q.1)
+finds_same None a b p q = (p.0 ∙ sym q.0, p.1 ∙ sym q.1)

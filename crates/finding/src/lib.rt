@@ -1,97 +1,79 @@
 // Lookup, and the quick lookup.
 #![tactic(auto)]
 
-ghost use Rattle.std.specs.Prelude.{◌≡◌};
-ghost use Rattle.pool.specs.Sizes.{Sized};
+ghost use Rattle.std.specs.Prelude.{◌≡◌, ℕ};
+ghost use Rattle.digits.specs.Choice.{pick};
 ghost use Rattle.pool.specs.Refs.{Within};
-ghost use Rattle.finding.specs.Lookups.{told, found_end, LookupGives, QuickGives};
+ghost use Rattle.finding.specs.Lookups.{told, found_end, lookup_of, quick_of, LookupGives, QuickGives};
 
 use digits::Header;
-use pool::{Ref, Size};
-use walk::Head;
+use pool::{Pool, Ref};
+use refusals::Refusal;
 
-// What a lookup finds: the value and the nodes of its walk, or the nodes before it missed or met damage, or a wrong size.
+// What a lookup finds: the value, or why there is none, and how many nodes its walk met with an accepted header.
 #[derive(Clone, Copy)]
-pub enum Found {
-    Hit(u64, usize),
-    Absent(usize),
-    Met(usize),
-    WrongSize,
+pub struct Found {
+    pub value: Result<u64, Refusal>,
+    pub nodes: usize,
 }
 
-// What a walk finds that has come past so many nodes to no further one.
-fn found_end(pool: &[u64], n: usize, key: u64, nodes: usize, r: Ref) -> Found
-    requires { Sized pool.now n × Within n r }
-    ensures { told result ≡ found_end pool.now key nodes r }
+// What a walk finds that has come to no further node.
+fn found_end(pool: &Pool, key: u64, r: Ref) -> Result<u64, Refusal>
+    requires { Within pool.now.n r }
+    ensures { (m : ℕ) → told record { value = result; nodes = m } ≡ found_end pool.now.words.now key m r }
 {
     match r {
-        Ref::Leaf(i) => {
-            if pool::leaf_key(pool, n, i) == key {
-                Found::Hit(pool::leaf_value(pool, n, i), nodes)
-            } else {
-                Found::Absent(nodes)
-            }
-        }
-        Ref::Empty => Found::Absent(nodes),
-        Ref::Node(_) => Found::Met(nodes),
-        Ref::Bad => Found::Met(nodes),
+        Ref::Leaf(i) if pool.leaf_key(i) == key => Ok(pool.leaf_value(i)),
+        Ref::Leaf(_) | Ref::Empty => Err(Refusal::Absent),
+        Ref::Node(_) | Ref::Bad => Err(Refusal::Damage),
     }
 }
 
-// The file number of a key. The walk is made here and not by `walk`, which keeps more than a lookup needs.
+// What the walk along a key finds, and where it is quick the walk that compares stored digits on the way: the first that differs is a miss. Its nodes
+// are counted from 0. The walk is made here and not by `walk`, which keeps more than a lookup needs. Which of the two it is is known when it is
+// compiled, so that a plain lookup tests nothing more; and no `?` stands in the loop, for behind one the compiler does not know that b is below 16.
+fn find<const QUICK: bool>(words: &[u64], key: u64, nodes: &mut usize) -> Result<u64, Refusal>
+    requires { nodes.old ≡ 0 }
+    ensures { told record { value = result; nodes = nodes.new } ≡ pick QUICK (quick_of words.now key) (lookup_of words.now key) }
+{
+    let pool = Pool::of(words).ok_or(Refusal::Size)?;
+    let mut x = pool.root();
+    let mut w: usize = 0;
+    while pool::MOST < x {
+        let r = pool::reference(pool.n, x);
+        let Ref::Node(j) = r else {
+            return found_end(&pool, key, r);
+        };
+        let at = pool::node_word(pool.n, j);
+        let word = pool.words[at];
+        let Some(b) = walk::accept(w, word) else {
+            return Err(Refusal::Damage);
+        };
+        *nodes += 1;
+        if QUICK && Header::differs(word, key) {
+            return Err(Refusal::Absent);
+        }
+        x = pool.words[at + 1 + digits::digit(key, b)];
+        w = b + 1;
+    }
+    let end = pool::reference(pool.n, x);
+    found_end(&pool, key, end)
+}
+
+// The file number of a key.
 pub fn lookup(pool: &[u64], key: u64) -> Found
     ensures { LookupGives pool.now key (told result) }
 {
-    let Size::Holds(n) = pool::capacity(pool) else {
-        return Found::WrongSize;
-    };
-    let mut x = pool[1];
-    let mut w: usize = 0;
-    let mut nodes: usize = 0;
-    while pool::MOST < x {
-        let r = pool::reference(n, x);
-        let Ref::Node(j) = r else {
-            return found_end(pool, n, key, nodes, r);
-        };
-        let at = pool::node_word(n, j);
-        let Head::Branch(b) = walk::accept(w, pool[at]) else {
-            return Found::Met(nodes);
-        };
-        x = pool[at + 1 + digits::digit(key, b)];
-        w = b + 1;
-        nodes += 1;
-    }
-    let end = pool::reference(n, x);
-    found_end(pool, n, key, nodes, end)
+    let mut nodes = 0;
+    let value = find::<false>(pool, key, &mut nodes);
+    Found { value, nodes }
 }
 
 // The same, but stored digits are compared on the way: the first that differs is a miss.
 pub fn lookup_quick(pool: &[u64], key: u64) -> Found
     ensures { QuickGives pool.now key (told result) }
 {
-    let Size::Holds(n) = pool::capacity(pool) else {
-        return Found::WrongSize;
-    };
-    let mut x = pool[1];
-    let mut w: usize = 0;
-    let mut met: usize = 0;
-    while pool::MOST < x {
-        let r = pool::reference(n, x);
-        let Ref::Node(j) = r else {
-            return found_end(pool, n, key, met, r);
-        };
-        let at = pool::node_word(n, j);
-        let word = pool[at];
-        let Head::Branch(b) = walk::accept(w, word) else {
-            return Found::Met(met);
-        };
-        met += 1;
-        if Header::differs(word, key) {
-            return Found::Absent(met);
-        }
-        x = pool[at + 1 + digits::digit(key, b)];
-        w = b + 1;
-    }
-    let end = pool::reference(n, x);
-    found_end(pool, n, key, met, end)
+    let mut nodes = 0;
+    let value = find::<true>(pool, key, &mut nodes);
+    Found { value, nodes }
 }

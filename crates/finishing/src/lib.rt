@@ -2,43 +2,42 @@
 #![tactic(auto)]
 
 ghost use Rattle.std.specs.Prelude.{◌≡◌, length, replicate};
+ghost use Rattle.refusals.specs.Refusals.{number_in};
 ghost use Rattle.plan.specs.Plans.{after, store_of};
 ghost use Rattle.finishing.specs.Finishes.{stores_of, finish_of, FinishGives};
 
 use plan::{Effect, Plan};
+use refusals::Refusal;
 
 // One byte.
-fn mark(map: &mut [u8], at: usize, byte: u8) -> u64
-    ensures { after result map.new ≡ store_of at byte map.old }
+fn mark(map: &mut [u8], at: usize, byte: u8) -> Result<(), Refusal>
+    ensures { after (number_in result) map.new ≡ store_of at byte map.old }
 {
     if map.len() <= at {
-        return 5;
+        return Err(Refusal::Outside);
     }
     map[at] = byte;
-    0
+    Ok(())
 }
 
 // Two bytes, both judged before either is written.
-fn mark_both(map: &mut [u8], leaf: usize, node: usize, byte: u8) -> u64
-    ensures { after result map.new ≡ stores_of leaf node byte map.old }
+fn mark_both(map: &mut [u8], leaf: usize, node: usize, byte: u8) -> Result<(), Refusal>
+    ensures { after (number_in result) map.new ≡ stores_of leaf node byte map.old }
 {
-    if map.len() <= leaf {
-        return 5;
-    }
-    if map.len() <= node {
-        return 5;
+    if map.len() <= leaf || map.len() <= node {
+        return Err(Refusal::Outside);
     }
     map[leaf] = byte;
     map[node] = byte;
-    0
+    Ok(())
 }
 
 // An effect changes only the map bytes that it names.
-pub fn take_effect(map: &mut [u8], effect: Effect) -> u64
-    ensures { after result map.new ≡ finish_of effect map.old }
+pub fn take_effect(map: &mut [u8], effect: Effect) -> Result<(), Refusal>
+    ensures { after (number_in result) map.new ≡ finish_of effect map.old }
 {
     match effect {
-        Effect::Nothing => 0,
+        Effect::Nothing => Ok(()),
         Effect::TakesLeaf(leaf) => mark(map, leaf, 1),
         Effect::TakesBoth(leaf, node) => mark_both(map, leaf, node, 1),
         Effect::FreesLeaf(leaf) => mark(map, leaf, 0),
@@ -47,20 +46,15 @@ pub fn take_effect(map: &mut [u8], effect: Effect) -> u64
 }
 
 // Finishing changes only the named map bytes.
-pub fn finish(map: &mut [u8], plan: Plan) -> u64
-    ensures { FinishGives plan map.old (after result map.new) }
+pub fn finish(map: &mut [u8], plan: Plan) -> Result<(), Refusal>
+    ensures { FinishGives plan map.old (after (number_in result) map.new) }
 {
-    let effect = plan.effect;
-    take_effect(map, effect)
+    take_effect(map, plan.effect)
 }
 
 // Every byte of a map becomes 0: no slot is taken.
 pub fn clear(map: &mut [u8])
     ensures { map.new ≡ replicate (length map.old) 0 }
 {
-    let mut i: usize = 0;
-    while i < map.len() {
-        map[i] = 0;
-        i += 1;
-    }
+    map.fill(0);
 }

@@ -98,7 +98,7 @@ spared_at (x ∷ l) (suc i) = spared_at l i
 pub spared_past : (l : List ℕ) (i : ℕ) → length l ≤ i → get_or (spared l) i 0 ≡ 0
 spared_past l i h = spared_at l i ∙ get_or-eq_default l 0 h
 
-four : (e : Effect) → length (effect_words e) ≡ 4
+pub four : (e : Effect) → length (effect_words e) ≡ 4
 four Nothing = refl
 four (TakesLeaf a) = refl
 four (TakesBoth a b) = refl

@@ -2,10 +2,9 @@
 -- Assumes nothing.
 use Rattle.std.specs.Prelude.{◌≡◌, List, [], ◌∷◌, ◌++◌, ℕ, eqb, ltb, get_or, take, drop}
 use Rattle.digits.specs.Choice.{pick}
-use Rattle.plan.specs.Plans.{After, after}
+use Rattle.plan.specs.Plans.{After, after, Planned}
 use Rattle.finishing.specs.Finishes.{finish_of}
 use Rattle.plan.specs.declared.Plan.{Plan}
-use Rattle.plan.specs.declared.Planned.{Planned}
 use Rattle.plan.specs.declared.Effect.{Effect}
 use Rattle.plan.specs.declared.Effect.TheVariants.{Nothing, TakesLeaf, TakesBoth, FreesLeaf, FreesBoth}
 

@@ -1,11 +1,13 @@
 // A plan as a run of words, as include/wort.h has it: handed out, and taken in again.
 #![tactic(auto)]
 
-ghost use Rattle.std.specs.Prelude.{◌≡◌, [], ◌∷◌, ◌++◌, length, get_or, take};
+ghost use Rattle.std.specs.Prelude.{◌≡◌, [], ◌∷◌, ◌++◌, length, take};
 ghost use Rattle.std.proofs.lemmas.List.Edits.{sets};
+ghost use Rattle.plan.specs.Plans.{outcome};
 ghost use Rattle.handing.specs.Plans.{effect_words, spared, words_of, effect_of, plan_in, planned, planned_in};
 
-use plan::{Effect, Plan, Planned};
+use plan::{Effect, Plan};
+use refusals::Refusal;
 
 // Where a plan's words stand: seven of the head, then so many places for word numbers and as many for values.
 const COUNT: usize = 0;
@@ -51,44 +53,26 @@ fn lay_effect(plan: &mut [u64; 53], effect: Effect)
     }
 }
 
-// Word number i of a list, 0 past its end.
-fn word_in(words: &[usize], i: usize) -> u64
-    ensures { result ≡ get_or words.now i 0 }
-{
-    if i < words.len() { words[i] as u64 } else { 0 }
-}
-
-// Value i of a list, 0 past its end.
-fn value_in(values: &[u64], i: usize) -> u64
-    ensures { result ≡ get_or values.now i 0 }
-{
-    if i < values.len() { values[i] } else { 0 }
-}
-
 // Writes the word numbers and the values, after the head; a place for which there is none becomes 0.
-fn lay_stores(plan: &mut [u64], words: &[usize], values: &[u64])
-    requires { (length plan.old ≡ 53) × (length words.now ≡ 21) × (length values.now ≡ 21) }
+fn lay_stores(plan: &mut [u64; 53], words: &[usize; Plan::MOST], values: &[u64; Plan::MOST])
     ensures { plan.new ≡ take 7 plan.old ++ spared words.now ++ spared values.now }
 {
-    let mut i: usize = 0;
-    while i < PLACES {
-        plan[HEAD + i] = word_in(words, i);
-        plan[VALUES + i] = value_in(values, i);
-        i += 1;
+    for i in 0..PLACES {
+        plan[HEAD + i] = words.get(i).copied().unwrap_or(0) as u64;
+        plan[VALUES + i] = values.get(i).copied().unwrap_or(0);
     }
 }
 
 // Writes a plan, of these parts.
-pub fn lay_plan<'a>(
+pub fn lay_plan(
     plan: &mut [u64; 53],
     count: usize,
     first: usize,
     fences: usize,
     effect: Effect,
-    words: &'a [usize],
-    values: &'a [u64],
+    words: &[usize; Plan::MOST],
+    values: &[u64; Plan::MOST],
 )
-    requires { (length words.now ≡ 21) × (length values.now ≡ 21) }
     ensures { plan.new ≡
         words_of (record { words = words.now; values = values.now; count = count; first = first; fences = fences; effect = effect }) }
 {
@@ -99,42 +83,29 @@ pub fn lay_plan<'a>(
     lay_stores(plan, words, values);
 }
 
-// Hands out what a planning call answers.
-pub fn hand_out(plan: &mut [u64; 53], p: Planned) -> u64
-    ensures { planned result plan.new ≡ planned_in p }
+// Hands out what a planning call answers: with a refusal, a plan that does nothing.
+pub fn hand_out(plan: &mut [u64; 53], answer: Result<Plan, Refusal>) -> u64
+    ensures { planned result plan.new ≡ planned_in (outcome answer) }
 {
-    let number = p.number;
-    let decided = p.plan;
-    let effect = decided.effect;
+    let number = refusals::number(&answer);
+    let p = answer.unwrap_or(Plan::none(Effect::Nothing));
     lay_plan(
-        plan,
-        decided.count,
-        decided.first,
-        decided.fences,
-        effect,
-        &decided.words,
-        &decided.values,
+        plan, p.count, p.first, p.fences, p.effect, &p.words, &p.values,
     );
     number
 }
 
-// The effect that three words say.
+// The effect that three words say; a kind that there is not is nothing.
 fn effect_in(kind: u64, leaf: usize, node: usize) -> Effect
     ensures { result ≡ effect_of kind leaf node }
 {
-    if kind == 1 {
-        return Effect::TakesLeaf(leaf);
+    match kind {
+        1 => Effect::TakesLeaf(leaf),
+        2 => Effect::TakesBoth(leaf, node),
+        3 => Effect::FreesLeaf(leaf),
+        4 => Effect::FreesBoth(leaf, node),
+        _ => Effect::Nothing,
     }
-    if kind == 2 {
-        return Effect::TakesBoth(leaf, node);
-    }
-    if kind == 3 {
-        return Effect::FreesLeaf(leaf);
-    }
-    if kind == 4 {
-        return Effect::FreesBoth(leaf, node);
-    }
-    Effect::Nothing
 }
 
 // The plan that a run of 53 words says.
@@ -142,20 +113,14 @@ pub fn taken_in(plan: &[u64]) -> Plan
     requires { length plan.now ≡ 53 }
     ensures { result ≡ plan_in plan.now }
 {
-    let mut words = [0usize; 21];
-    let mut values = [0u64; 21];
-    let mut i: usize = 0;
-    while i < Plan::MOST {
-        words[i] = plan[HEAD + i] as usize;
-        values[i] = plan[VALUES + i];
-        i += 1;
+    let effect = effect_in(plan[EFFECT], plan[LEAF] as usize, plan[NODE] as usize);
+    let mut taken = Plan::none(effect);
+    taken.count = plan[COUNT] as usize;
+    taken.first = plan[FIRST] as usize;
+    taken.fences = plan[FENCES] as usize;
+    for i in 0..Plan::MOST {
+        taken.words[i] = plan[HEAD + i] as usize;
+        taken.values[i] = plan[VALUES + i];
     }
-    Plan {
-        words,
-        values,
-        count: plan[COUNT] as usize,
-        first: plan[FIRST] as usize,
-        fences: plan[FENCES] as usize,
-        effect: effect_in(plan[EFFECT], plan[LEAF] as usize, plan[NODE] as usize),
-    }
+    taken
 }

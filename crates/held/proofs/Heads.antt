@@ -1,5 +1,6 @@
 -- What a reference comes to that holds a tree: nothing, a leaf, or a node whose header is accepted; and what a header says that shows a node.
 -- Rests on what the layout's references show. Assumes nothing.
+use Rattle.std.specs.Prelude.{Some}
 use mathlib.Core.Path.{◌≡◌, refl, sym, ap, ◌∙◌}
 use mathlib.Core.Bool.{Bool, true, false, not}
 use mathlib.Core.List.{List}
@@ -20,7 +21,6 @@ use Rattle.layout.proofs.Base.{SeesLeaf, sees, ref_empty}
 use Rattle.layout.proofs.Held.{filled_word}
 use Rattle.walk.specs.Walks.{head_of}
 use Rattle.walk.specs.Ends.{Accepted}
-use Rattle.walk.specs.declared.Head.TheVariants.{Branch}
 use Rattle.held.specs.Ways.{mem}
 
 -- ---- a header that shows a node of depth h and branch place b
@@ -51,7 +51,7 @@ head_shown x h b g word e = go (ltb (length_of word) 16) refl (ltb (depth_of wor
     go false ea c ec z = let o : ◌≡◌ {A = ℕ} 0 1 = cc in absurd (omega arith)
 
 -- it is accepted where its depth is deep enough
-head_accepted : (w h b g word : ℕ) → Shown h b g word → w ≤ h → head_of w word ≡ Branch b
+head_accepted : (w h b g word : ℕ) → Shown h b g word → w ≤ h → head_of w word ≡ Some b
 unfolding head_of
 head_accepted w h b g word s l =
     rw (
@@ -59,7 +59,7 @@ head_accepted w h b g word s l =
       le-ltb 15 (length_of word) (omega (arith, s.short)),
       le-ltb 15 (depth_of word + length_of word) (omega (arith, s.branch, s.most)),
     )
-    (ap Branch s.branch)
+    (ap Some s.branch)
 
 -- ---- the reference r, met at walk depth w
 module _ (pool : List ℕ) (n w r : ℕ) where

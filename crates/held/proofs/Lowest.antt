@@ -1,5 +1,6 @@
 -- The lowest leaf and the children of a node, in a pool that holds a tree, are the tree's own.
 -- Rests on what references come to, and on the walk's turns. Assumes nothing.
+use Rattle.std.specs.Prelude.{Ok}
 use mathlib.Core.Path.{◌≡◌, refl, sym, ap, ◌∙◌, subst}
 use mathlib.Core.Bool.{Bool, true, false}
 use mathlib.Core.Logic.{◌≢◌}
@@ -19,7 +20,6 @@ use Rattle.tree.proofs.Basics.{Same?, same, other, same?, true_not_false, sum_sa
 use Rattle.tree.proofs.Near.{scan_finds, scan_same, lowest, filled_is, filled_true}
 use Rattle.layout.specs.Layout.{base}
 use Rattle.walk.specs.Walks.{is_child, children_of, lowest_child, other_child, lowest_from}
-use Rattle.walk.specs.declared.Lowest.TheVariants.{Key}
 use Rattle.walk.proofs.LowestLeaf.{lowest_ends, lowest_goes}
 use Rattle.held.specs.Ways.{dig, mem}
 use Rattle.held.proofs.Heads.{held_leaf, held_node, held_child, held_zero}
@@ -87,13 +87,13 @@ module _ (pool : List ℕ) (n w r x b s : ℕ) (kids : ℕ → Tree ℕ) (h : Ho
 module _ (pool : List ℕ) (n : ℕ) where
   -- the lowest leaf's key is the tree's lowest
   pub low_held : (f w at r : ℕ) (q : ℕ → ℕ) (t : Tree ℕ) → Holds (base 16 n) (mem pool) w r t → Good dig 16 w q t → Filled t → w ≤ 16 → 17 ≤ f + w
-      → lowest_from f pool n w at r ≡ Key (low t)
+      → lowest_from f pool n w at r ≡ Ok (low t)
   unfolding Good low
   low_held zero w at r q t h g fl l fu = absurd (omega arith)
   low_held (suc f) w at r q empty h g fl l fu = absurd fl
   low_held (suc f) w at r q (leaf x k v) h g fl l fu =
       let see = held_leaf pool n w r x k v h in
-      lowest_ends pool n f w at r (Leaf x) see.ref tt ∙ ap Key see.key
+      lowest_ends pool n f w at r (Leaf x) see.ref tt ∙ ap Ok see.key
   low_held (suc f) w at r q (node x b s kids) h g fl l fu =
       let d : ℕ = scan 16 0 (λ c. filled (kids c)) in
       let (ld, fd) = lowest kids g.4 in

@@ -1,7 +1,7 @@
 -- The walk that compares stored digits, in a pool that holds a tree: where it stops, the key is not held. Assumes nothing.
+use Rattle.std.specs.Prelude.{Option, None, Some}
 use mathlib.Core.Path.{◌≡◌, refl}
 use mathlib.Core.Bool.{Bool, true, false}
-use mathlib.Core.Option.{Option, none, some}
 use mathlib.Core.List.{List}
 use Prim.Native.Nat.{ℕ, zero, suc, ◌+◌, ◌-◌, ◌<◌}
 use native.Mathlib.Omega.{arith}
@@ -34,7 +34,7 @@ module _ (pool : List ℕ) (n key : ℕ) where
 
   -- the quick walk stops only where the key is not held
   pub stopped_absent : (f : ℕ) (s : Spot) (q : ℕ → ℕ) (t : Tree ℕ) → Holds (base 16 n) (mem pool) s.depth (word_at pool s.at) t
-      → Good dig 16 s.depth q t → (Unstopped (walk_from f pool n key unlike s) → ⊥) → find dig key t ≡ none
+      → Good dig 16 s.depth q t → (Unstopped (walk_from f pool n key unlike s) → ⊥) → find dig key t ≡ None
   unfolding Good find walk_from
   stopped_absent zero s q t h g u = absurd (u tt)
   stopped_absent (suc f) s q empty h g u = refl
@@ -62,10 +62,10 @@ module _ (pool : List ℕ) (n key : ℕ) where
       own : Good dig 16 b (dig k) (node x b k kids)
       own = (omega arith, g.1, λ i l. refl, g.3, g.4)
 
-      go : ((Unstopped (walk_from f pool n key unlike (below n (x - n) b c s)) → ⊥) → find dig key (kids c) ≡ none)
-          → (d : Bool) → differs (header_at pool n (x - n)) key ≡ d → (o : Option ℕ) → find dig key (kids c) ≡ o → find dig key (kids c) ≡ none
+      go : ((Unstopped (walk_from f pool n key unlike (below n (x - n) b c s)) → ⊥) → find dig key (kids c) ≡ None)
+          → (d : Bool) → differs (header_at pool n (x - n)) key ≡ d → (o : Option ℕ) → find dig key (kids c) ≡ o → find dig key (kids c) ≡ None
       go on false e o z = on (λ v. u (rw (walk_goes pool n key unlike f s (x - n) b A e) v))
-      go on true e none z = z
-      go on true e (some v) z =
+      go on true e None z = z
+      go on true e (Some v) z =
           absurd (true_not_false e
           (agreeing_alike (held_head pool n w r x b k kids h) (found_agrees dig 16 (digit_lt 16) b (dig k) (node x b k kids) key v own z)))

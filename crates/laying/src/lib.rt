@@ -1,152 +1,111 @@
-// What each operation stores, in order, laid out in the first places of two lent lists: the word numbers in one, the values in the other. The plan of
-// an operation and its whole call are made of the same lists.
+// What each operation stores, in order, laid out behind the stores that are there. The plan of an operation and its whole call are made of the same
+// stores.
 #![tactic(auto)]
 
-ghost use Rattle.std.specs.Prelude.{[], ◌∷◌, ◌+◌, ◌<◌, ◌≤◌, length};
+ghost use Rattle.std.specs.Prelude.{◌≡◌, [], ◌∷◌, ◌++◌, ◌+◌, ◌-◌, ◌<◌, ◌≤◌, length};
 ghost use Rattle.tree.specs.Stores.{block};
-ghost use Rattle.layout.specs.Operations.{store, put_stores, delete_stores, replacing, growing, bypassing};
-ghost use Rattle.rules.specs.Puts.{Splits, cleaving};
-ghost use Rattle.laying.specs.Lays.{Lays, Holding, Cloven, node_values, new_stores};
+ghost use Rattle.layout.specs.Operations.{store, leaf_stores, put_stores, replacing, growing};
+ghost use Rattle.rules.specs.Puts.{Splits, target_header, cleaving};
+ghost use Rattle.removing.specs.Removals.{switched};
+ghost use Rattle.laying.specs.Nodes.{Cloven, node_values};
 
 use digits::Header;
-use rules::{Cleft, Target};
-
-// One store, at a place of the lists; the next place.
-fn lay(words: &mut [usize], values: &mut [u64], place: usize, word: usize, value: u64) -> usize
-    requires { (place < length words.old) × (place < length values.old) }
-    ensures { Lays place (store word value ∷ []) words.old values.old result words.new values.new }
-{
-    words[place] = word;
-    values[place] = value;
-    place + 1
-}
+use plan::Stores;
+use removing::{Follows, Switch};
+use rules::{Cleft, Slots, Target};
 
 // The value of leaf i, whose key is found.
-pub fn replacing(words: &mut [usize], values: &mut [u64], i: usize, value: u64) -> usize
-    requires { Holding 1 words.old values.old × (i < 1024) }
-    ensures { Lays 0 (put_stores (replacing i value)) words.old values.old result words.new values.new }
+pub fn replacing<const N: usize>(stores: &mut Stores<N>, i: usize, value: u64)
+    requires { (length stores.old < N) × (i < 1024) }
+    ensures { stores.new ≡ stores.old ++ put_stores (replacing i value) }
 {
-    lay(words, values, 0, pool::leaf_word(i) + 1, value)
+    stores.push(pool::leaf_word(i) + 1, value);
 }
 
 // A new leaf at the empty reference `at`: leaf key, leaf value, that reference.
-pub fn growing(
-    words: &mut [usize],
-    values: &mut [u64],
-    leaf: usize,
-    key: u64,
-    value: u64,
-    at: usize,
-) -> usize
-    requires { Holding 3 words.old values.old × (leaf < 1024) }
-    ensures { Lays 0 (put_stores (growing leaf key value at)) words.old values.old result words.new values.new }
+#[tactic(auto, unfolding(tree::specs::Stores::block))]
+pub fn growing<const N: usize>(stores: &mut Stores<N>, leaf: usize, key: u64, value: u64, at: usize)
+    requires { (length stores.old + 3 ≤ N) × (leaf < 1024) }
+    ensures { stores.new ≡ stores.old ++ put_stores (growing leaf key value at) }
 {
-    let word = pool::leaf_word(leaf);
-    let link = pool::leaf_ref(leaf);
-    let place = lay(words, values, 0, word, key); // the leaf first, and whole
-    let place = lay(words, values, place, word + 1, value);
-    lay(words, values, place, at, link) // the reference to it last
+    lay_leaf(stores, leaf, key, value); // the leaf first, and whole
+    stores.push(at, pool::leaf_ref(leaf)); // the reference to it last
 }
 
-// The header and the children of a split's new node, which begins at a word, from a place of the lists on; the next place.
-fn lay_node(
-    words: &mut [usize],
-    values: &mut [u64],
-    place: usize,
-    word: usize,
-    s: Cleft,
-    key: u64,
-    leaf: usize,
-) -> usize
-    requires { Holding (place + 17) words.old values.old × (word < 32768) × (leaf < 1024) × Cloven s }
-    ensures { Lays place (block word (node_values s leaf key)) words.old values.old result words.new values.new }
+// A leaf: its key, its value.
+#[tactic(auto, unfolding(tree::specs::Stores::block))]
+fn lay_leaf<const N: usize>(stores: &mut Stores<N>, leaf: usize, key: u64, value: u64)
+    requires { (length stores.old + 2 ≤ N) × (leaf < 1024) }
+    ensures { stores.new ≡ stores.old ++ leaf_stores leaf key value }
 {
-    let first = lay(
-        words,
-        values,
-        place,
-        word,
-        Header::pack(s.depth, s.diff - s.depth, key),
-    );
-    let mut c: usize = 0;
-    while c < Header::CHILDREN {
-        lay(words, values, first + c, word + 1 + c, 0);
-        c += 1;
+    let word = pool::leaf_word(leaf);
+    stores.push(word, key);
+    stores.push(word + 1, value);
+}
+
+// The header and the children of a split's new node, which begins at a word: no child but what is split and the new leaf, which wins where both have
+// one digit.
+fn lay_node<const N: usize>(stores: &mut Stores<N>, word: usize, s: Cleft, key: u64, leaf: usize)
+    requires { (length stores.old + 17 ≤ N) × (word < 32768) × (leaf < 1024) × Cloven s }
+    ensures { stores.new ≡ stores.old ++ block word (node_values s leaf key) }
+{
+    stores.push(word, Header::pack(s.depth, s.diff - s.depth, key));
+    let first = stores.len();
+    for c in 0..Header::CHILDREN {
+        stores.push(word + 1 + c, 0);
     }
-    let old = first + digits::digit(s.near, s.diff);
-    values[old] = s.old;
-    let new = first + digits::digit(key, s.diff);
-    values[new] = pool::leaf_ref(leaf);
-    first + Header::CHILDREN
+    stores.set_value(first + digits::digit(s.near, s.diff), s.old);
+    stores.set_value(first + digits::digit(key, s.diff), pool::leaf_ref(leaf));
 }
 
-// What is new in a split, in the first places of the lists: the leaf, and the node with its children; the next place.
-fn lay_new(
-    words: &mut [usize],
-    values: &mut [u64],
-    n: usize,
-    s: Cleft,
-    key: u64,
-    value: u64,
-    leaf: usize,
-    node: usize,
-) -> usize
-    requires { Holding 19 words.old values.old × (n ≤ 1024) × (leaf < n) × (node < n) × Cloven s }
-    ensures { Lays 0 (new_stores n s leaf node key value) words.old values.old result words.new values.new }
+// The header of what is split off, if that is a node.
+fn lay_target<const N: usize>(stores: &mut Stores<N>, n: usize, s: Cleft, target: Target)
+    requires { (length stores.old < N) × (n ≤ 1024) × Splits n s target }
+    ensures { stores.new ≡ stores.old ++ target_header n s target }
 {
-    let word = pool::leaf_word(leaf);
-    let place = lay(words, values, 0, word, key);
-    let place = lay(words, values, place, word + 1, value);
-    lay_node(words, values, place, pool::node_word(n, node), s, key, leaf)
+    if let Target::ANode(j, b) = target {
+        let header = Header::pack(s.diff + 1, b - s.diff - 1, s.near);
+        stores.push(pool::node_word(n, j), header);
+    }
+}
+
+// What makes the split: the header of what is split off, if that is a node, and the reference in the word `at`, which takes the new node.
+fn lay_links<const N: usize>(stores: &mut Stores<N>, n: usize, s: Cleft, target: Target, link: u64)
+    requires { (length stores.old + 2 ≤ N) × (n ≤ 1024) × Splits n s target }
+    ensures { stores.new ≡ stores.old ++ target_header n s target ++ store s.at link ∷ [] }
+{
+    lay_target(stores, n, s, target); // until the reference is made this header is stale
+    stores.push(s.at, link); // the reference last
 }
 
 // The split of a reference, into a free leaf and a free node: 20 stores for a leaf target, 21 for a node.
-pub fn splitting(
-    words: &mut [usize],
-    values: &mut [u64],
+pub fn splitting<const N: usize>(
+    stores: &mut Stores<N>,
     n: usize,
     s: Cleft,
     key: u64,
     value: u64,
     target: Target,
-    leaf: usize,
-    node: usize,
-) -> usize
-    requires { Holding 21 words.old values.old × (n ≤ 1024) × (leaf < n) × (node < n) × Cloven s × Splits n s target }
-    ensures { Lays 0 (put_stores (cleaving n s leaf node key value target))
-        words.old values.old result words.new values.new }
+    slots: Slots,
+)
+    requires { (length stores.old + 21 ≤ N) × (n ≤ 1024) × (slots.leaf < n) × (n ≤ slots.node) × (slots.node < n + n)
+        × Cloven s × Splits n s target }
+    ensures { stores.new ≡ stores.old ++ put_stores (cleaving n s slots.leaf (slots.node - n) key value target) }
 {
+    let node = slots.node - n;
     let link = pool::node_ref(node);
-    let place = lay_new(words, values, n, s, key, value, leaf, node); // what is new first, where no walk comes yet
-    let Target::ANode(j, b) = target else {
-        return lay(words, values, place, s.at, link);
-    };
-    let word = pool::node_word(n, j);
-    let header = Header::pack(s.diff + 1, b - s.diff - 1, s.near);
-    let place = lay(words, values, place, word, header); // until the reference is made this header is stale
-    lay(words, values, place, s.at, link) // the reference last
+    lay_leaf(stores, slots.leaf, key, value); // what is new first, where no walk comes yet
+    lay_node(stores, pool::node_word(n, node), s, key, slots.leaf);
+    lay_links(stores, n, s, target, link);
 }
 
-// One store: a reference takes another child, or 0.
-pub fn switching(words: &mut [usize], values: &mut [u64], at: usize, child: u64) -> usize
-    requires { Holding 1 words.old values.old }
-    ensures { Lays 0 (delete_stores (bypassing at child)) words.old values.old result words.new values.new }
+// A switch: a reference takes another child, or 0. If the child is a node, its header follows.
+pub fn switching<const N: usize>(stores: &mut Stores<N>, switch: Switch, follows: Option<Follows>)
+    requires { length stores.old + length (switched switch follows) ≤ N }
+    ensures { stores.new ≡ stores.old ++ switched switch follows }
 {
-    lay(words, values, 0, at, child)
-}
-
-// Two stores: a reference takes another child, a node, whose header follows.
-pub fn lifting(
-    words: &mut [usize],
-    values: &mut [u64],
-    at: usize,
-    child: u64,
-    word: usize,
-    header: u64,
-) -> usize
-    requires { Holding 2 words.old values.old }
-    ensures { Lays 0 (store at child ∷ store word header ∷ []) words.old values.old result words.new values.new }
-{
-    let place = lay(words, values, 0, at, child); // the reference first: from here the key is gone
-    lay(words, values, place, word, header) // until this store the header is stale, which every walk accepts
+    stores.push(switch.at, switch.child); // the reference first: from here the key is gone
+    if let Some(header) = follows {
+        stores.push(header.word, header.header); // until this store the header is stale, which every walk accepts
+    }
 }

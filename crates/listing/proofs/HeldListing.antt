@@ -1,9 +1,9 @@
 -- On a pool that holds a tree, a listing hands out the tree's entries, lowest first: its visit meets just these, and none of its refusals comes.
 -- Assumes nothing.
+use Rattle.std.specs.Prelude.{Some, Option, None}
 use mathlib.Core.Path.{◌≡◌, refl, sym, ap, ◌∙◌, subst}
 use mathlib.Core.Bool.{Bool, true, false}
 use mathlib.Core.Logic.{◌≢◌, ◌⊎◌, inl, inr}
-use mathlib.Core.Option.{Option, none, some}
 use mathlib.Core.List.{List, [], ◌∷◌, ◌++◌, map, map-append, append-nil}
 use Prim.Native.Nat.{ℕ, zero, suc, ◌+◌, ◌-◌, ◌≤◌, ◌<◌}
 use native.Mathlib.Omega.{arith}
@@ -18,7 +18,6 @@ use Rattle.digits.proofs.Digits.{digit_lt, digit_less}
 use Rattle.pool.specs.Sizes.{capacity_of}
 use Rattle.pool.specs.Places.{word_at, leaf_word, child_at}
 use Rattle.pool.specs.Refs.{ref_of}
-use Rattle.pool.specs.declared.Size.TheVariants.{Holds}
 use Rattle.pool.specs.declared.Ref.{Ref}
 use Rattle.tree.specs.Tree.{Tree, empty, leaf, node, upd, sub, Stands, here, find, Good}
 use Rattle.tree.specs.Listing.{Entry, Rising, look, cat, entries}
@@ -218,18 +217,18 @@ pub word_less : (k k' i : ℕ) → Word k → Word k' → i < 16 → ((j : ℕ) 
 word_less k k' i a b l e h = digit_less 16 k k' a b i l e h
 
 -- a key that has a value is one of the tree's
-found_word : (k v : ℕ) (t : Tree ℕ) → Keys dig 16 Word word_less t → find dig k t ≡ some v → Word k
+found_word : (k v : ℕ) (t : Tree ℕ) → Keys dig 16 Word word_less t → find dig k t ≡ Some v → Word k
 unfolding Keys find
 found_word k v empty o e = let z : ◌≡◌ {A = ℕ} 0 1 = cc in absurd (omega arith)
 found_word k v (leaf x k' a) o e = go (same? k k')
   where
     go : Same? k k' → Word k
     go (same h p) = subst Word (sym h) o
-    go (other h p) = let z : ◌≡◌ {A = Option ℕ} none (some v) = rw p at e in let y : ◌≡◌ {A = ℕ} 0 1 = cc in absurd (omega arith)
+    go (other h p) = let z : ◌≡◌ {A = Option ℕ} None (Some v) = rw p at e in let y : ◌≡◌ {A = ℕ} 0 1 = cc in absurd (omega arith)
 found_word k v (node x b s kids) o e = found_word k v (kids (dig k b)) (o (dig k b) (digit_lt 16 k b)) e
 
 -- where every key that has a value is a word, every key of the tree is
-keys_named : (t : Tree ℕ) → Good dig 16 0 (λ i. 0) t → ((k v : ℕ) → find dig k t ≡ some v → Word k) → (u : Tree ℕ) (π : List ℕ) → Stands π u t
+keys_named : (t : Tree ℕ) → Good dig 16 0 (λ i. 0) t → ((k v : ℕ) → find dig k t ≡ Some v → Word k) → (u : Tree ℕ) (π : List ℕ) → Stands π u t
     → Keys dig 16 Word word_less u
 unfolding Keys
 keys_named t g names empty π p = tt
@@ -237,7 +236,7 @@ keys_named t g names (leaf x k v) π p = names k v (stands_found dig (digit_lt 1
 keys_named t g names (node x b s kids) π p = λ c l. keys_named t g names (kids c) (π ++ c ∷ []) (child dig π c x b s kids t l p).stands
 
 -- their keys rise, and a key has the value that the tree has for it
-pub rows_held : (pool : List ℕ) (n : ℕ) (t : Tree ℕ) → Held 16 n (mem pool) t → ((k v : ℕ) → find dig k t ≡ some v → Word k)
+pub rows_held : (pool : List ℕ) (n : ℕ) (t : Tree ℕ) → Held 16 n (mem pool) t → ((k v : ℕ) → find dig k t ≡ Some v → Word k)
     → Rising (entries t) × ((k : ℕ) → look k (entries t) ≡ find dig k t)
 unfolding sub
 rows_held pool n t H names =
@@ -254,11 +253,11 @@ module _ (pool : List ℕ) (n : ℕ) (words : Words pool) where
   keys_words w r (node x b s kids) h = λ c l. keys_words (b + 1) (child_at pool n (x - n) c) (kids c) (held_child pool n w r x b s kids c h l)
 
   -- in a pool of words every key that has a value is one
-  pub names_held : (t : Tree ℕ) → Held 16 n (mem pool) t → (k v : ℕ) → find dig k t ≡ some v → Word k
+  pub names_held : (t : Tree ℕ) → Held 16 n (mem pool) t → (k v : ℕ) → find dig k t ≡ Some v → Word k
   names_held t H k v e = found_word k v t (keys_words 0 (word_at pool 1) t H.holds) e
 
 -- ---- the listing
-pub list_held : (pool : List ℕ) (n : ℕ) (t : Tree ℕ) → capacity_of pool ≡ Holds n → Held 16 n (mem pool) t → (from : ℕ) (ks vs : List ℕ) → (length ks ≡ 0 → ⊥)
+pub list_held : (pool : List ℕ) (n : ℕ) (t : Tree ℕ) → capacity_of pool ≡ Some n → Held 16 n (mem pool) t → (from : ℕ) (ks vs : List ℕ) → (length ks ≡ 0 → ⊥)
     → length ks ≡ length vs → list_of pool from ks vs ≡ shown_rows (up_from from (entries t)) ks vs
 unfolding list_of
 list_held pool n t fits H from ks vs room alike =

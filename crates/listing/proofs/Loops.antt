@@ -38,24 +38,6 @@ upto_keeps P f h zero a p = p
 upto_keeps P f h (suc i) a p = h i (upto i f a) (upto_keeps P f h i a p)
 
 module _ (test : ℕ → Bool) where
-  pub scan_le : (n i : ℕ) → scan n i test ≤ i + n
-  unfolding scan
-  scan_le zero i = omega arith
-  scan_le (suc n) i = go (scan_le n (i + 1)) (test i) refl
-    where
-      go : scan n (i + 1) test ≤ i + 1 + n → (t : Bool) → test i ≡ t → scan (suc n) i test ≤ i + suc n
-      go ih true e = omega (arith, scan_here test (suc n) i e)
-      go ih false e = rw (e, scan) (omega arith)
-
-  pub scan_ge : (n i : ℕ) → i ≤ scan n i test
-  unfolding scan
-  scan_ge zero i = omega arith
-  scan_ge (suc n) i = go (scan_ge n (i + 1)) (test i) refl
-    where
-      go : i + 1 ≤ scan n (i + 1) test → (t : Bool) → test i ≡ t → i ≤ scan (suc n) i test
-      go ih true e = omega (arith, scan_here test (suc n) i e)
-      go ih false e = rw (e, scan) (omega arith)
-
   -- a place passed over fails the test
   pub scan_passes : (n i k : ℕ) → i ≤ k → k < scan n i test → test k ≡ false
   unfolding scan

@@ -1,41 +1,57 @@
--- Laws of a visit: one that is over does nothing, its bound on nodes is not seen, and a node is visited over those of its children that are not empty.
+-- Laws of a visit: one that is over does nothing, its bound on nodes is not seen, and a node is visited over its children, of which an empty one
+-- changes nothing.
 -- Assumes nothing.
+use Rattle.std.specs.Prelude.{None, Option, Some}
 use mathlib.Core.Path.{◌≡◌, refl, sym, ap, ◌∙◌}
 use mathlib.Core.Bool.{Bool, true, false}
 use mathlib.Core.List.{List}
 use Prim.Native.Nat.{ℕ, zero, suc, ◌+◌, ◌-◌, ◌≤◌, ◌<◌}
 use native.Mathlib.Omega.{arith}
-use borrow.Author.Tests.{eq-eqb, ne_eqb, eqb-true, leb-true, not-false}
-use lib.Dec.{eqb, leb, ltb}
+use borrow.Author.Tests.{eq-eqb, ne_eqb, ltb-true, ltb-false}
+use lib.Dec.{eqb, ltb}
+use lib.ListN.{length, get_or, drop}
+use Rattle.std.specs.Option.{is_some}
+use Rattle.std.proofs.lemmas.Bool.{false≢true}
+use Rattle.std.proofs.lemmas.List.{length-take, length-drop, get_or-take, get_or-drop}
+use Rattle.pool.specs.Sizes.{Sized}
 use Rattle.digits.specs.Choice.{pick}
-use Rattle.digits.specs.Loops.{upto, scan}
-use Rattle.pool.specs.Places.{key_at, value_at, header_at, child_at}
+use Rattle.digits.specs.Loops.{upto}
+use Rattle.pool.specs.Places.{key_at, value_at, header_at, node_word, child_at, children_at}
 use Rattle.pool.specs.Refs.{ref_of}
 use Rattle.pool.specs.declared.Ref.{Ref}
 use Rattle.pool.specs.declared.Ref.TheVariants.{Empty, Leaf, Node, Bad}
-use Rattle.walk.specs.Walks.{head_of, Between, is_child, children_of}
-use Rattle.walk.specs.declared.Head.{Head}
-use Rattle.walk.specs.declared.Head.TheVariants.{Branch, Wrong}
-use Rattle.walk.proofs.Heads.{NoNode, low_no_node, between}
+use Rattle.walk.specs.Walks.{head_of, Between, is_child, children_of, place_of, lowest_child}
+use Rattle.walk.proofs.Heads.{between}
 use Rattle.walk.proofs.Loops.{scan_true}
 use Rattle.listing.specs.Listings.{Visit, spoilt, leaf_of, kids_of, node_of, ref_visit, visit_from}
 use Rattle.digits.proofs.Choice.{pick_case}
 use Rattle.digits.proofs.Loops.{tally_none, tally_some}
-use Rattle.listing.proofs.Loops.{upto_next, upto_idle, upto_same, upto_keeps, scan_ge, scan_passes}
+use Rattle.listing.proofs.Loops.{upto_next, upto_idle, upto_same, upto_keeps, scan_passes}
 
--- a higher one that refers to no node is damage
-high_bad : (n r : ℕ) → 1024 < r → NoNode (ref_of n r) → ref_of n r ≡ Bad
-unfolding ref_of
-high_bad n r h g = go (eqb r 0) refl (leb r 1024) refl (leb r 2047) (ltb (r - 1025 + 1) n) g
+-- the sixteen children of a node, as a list
+module _ {pool : List ℕ} {n : ℕ} (z : Sized pool n) (j : ℕ) (h : j + 1 < n) {xs : List ℕ} (e : xs ≡ children_at pool n j) where
+  pub children_long : length xs ≡ 16
+  children_long = rw e (omega (arith, z.words, length-take 16 (drop (node_word n j + 1) pool), length-drop (node_word n j + 1) pool))
+
+  pub child_listed : (c : ℕ) → c < length xs → (c < 16) × (get_or xs c 0 ≡ child_at pool n j c)
+  child_listed c l =
+      let g : c < 16 = omega (arith, children_long) in
+      (g, rw e (get_or-take 16 (drop (node_word n j + 1) pool) c 0 g ∙ get_or-drop (node_word n j + 1) pool c 0))
+
+-- none has a place just where no place is below 16
+place_missing : (c : ℕ) → is_some (place_of c) ≡ false → 16 ≤ c
+place_missing c e = go (ltb c 16) refl e
   where
-    go : (a : Bool) → eqb r 0 ≡ a → (b : Bool) → leb r 1024 ≡ b → (c d : Bool)
-        → NoNode (pick a Empty (pick b (pick (ltb (r - 1) n) (Leaf (r - 1)) Bad) (pick c (pick d (Node (r - 1025)) Bad) Bad)))
-        → pick a Empty (pick b (pick (ltb (r - 1) n) (Leaf (r - 1)) Bad) (pick c (pick d (Node (r - 1025)) Bad) Bad)) ≡ Bad
-    go true e b f c d g = absurd (omega (arith, eqb-true r 0 e))
-    go false e true f c d g = absurd (omega (arith, leb-true r 1024 f))
-    go false e false f true true g = absurd g
-    go false e false f true false g = refl
-    go false e false f false d g = refl
+    go : (t : Bool) → ltb c 16 ≡ t → is_some (pick t (Some c) None) ≡ false → 16 ≤ c
+    go true q e = absurd (false≢true (sym e))
+    go false q e = ltb-false c 16 q
+
+place_there : (c : ℕ) → is_some (place_of c) ≡ true → c < 16
+place_there c e = go (ltb c 16) refl e
+  where
+    go : (t : Bool) → ltb c 16 ≡ t → is_some (pick t (Some c) None) ≡ true → c < 16
+    go true q e = ltb-true c 16 q
+    go false q e = absurd (false≢true e)
 
 module _ (pool : List ℕ) (n from : ℕ) where
   -- a node that is met with so many nodes left below the reference to it
@@ -58,10 +74,6 @@ module _ (pool : List ℕ) (n from : ℕ) where
       → visit_from f pool n from w r v ≡ ref_visit (node_from f w) pool n from y v
   visit_on f w r v h e q = visit_turn f w r v ∙ rw (eq-eqb v.state.phase 0 h, ← e, q)
 
-  pub visit_bad : (f w r : ℕ) (v : Visit) {x : Ref} → v.state.phase ≡ 0 → 1024 < r → x ≡ ref_of n r → NoNode x
-      → visit_from f pool n from w r v ≡ spoilt v
-  visit_bad f w r v h l e g = visit_on f w r v h refl (high_bad n r l (rw e at g))
-
   -- visits that treat a node alike are alike
   nodes_same : (f g w u r : ℕ) (v : Visit) → ((j : ℕ) → ref_of n r ≡ Node j → node_from f w j v ≡ node_from g u j v)
       → visit_from f pool n from w r v ≡ visit_from g pool n from u r v
@@ -73,10 +85,6 @@ module _ (pool : List ℕ) (n from : ℕ) where
       go (Leaf i) e = refl
       go (Node j) e = h j e
       go Bad e = refl
-
-  -- a reference to no node is visited alike at every depth, however many nodes are left
-  pub visit_end : (f g w u r : ℕ) (v : Visit) → NoNode (ref_of n r) → visit_from f pool n from w r v ≡ visit_from g pool n from u r v
-  visit_end f g w u r v h = nodes_same f g w u r v (λ j e. absurd (rw e at h))
 
   pub visit_empty : (f w r : ℕ) (v : Visit) → r ≡ 0 → visit_from f pool n from w r v ≡ v
   unfolding ref_of
@@ -92,18 +100,18 @@ module _ (pool : List ℕ) (n from : ℕ) where
       → node_of go pool n w j v ≡ node_of go' pool n w j v
   node_same go go' w j v e = at_head (head_of w (header_at pool n j)) (between w (header_at pool n j))
     where
-      at_head : (h : Head) → Between w h → kids_of go pool n j h v ≡ kids_of go' pool n j h v
-      at_head (Branch b) l = ap (pick (eqb (children_of pool n j) 0) (spoilt v)) (upto_same _ _ v (λ c u. e (b + 1) (child_at pool n j c) u (omega arith)) 16)
-      at_head Wrong l = refl
+      at_head : (h : Option ℕ) → Between w h → kids_of go pool n j h v ≡ kids_of go' pool n j h v
+      at_head (Some b) l = ap (pick (eqb (children_of pool n j) 0) (spoilt v)) (upto_same _ _ v (λ c u. e (b + 1) (child_at pool n j c) u (omega arith)) 16)
+      at_head None l = refl
 
   -- no header is accepted where no digit is left
   node_end : (f w j : ℕ) (v : Visit) → 16 ≤ w → spoilt v ≡ node_from f w j v
   node_end zero w j v g = refl
   node_end (suc f) w j v g = at_head (head_of w (header_at pool n j)) (between w (header_at pool n j))
     where
-      at_head : (h : Head) → Between w h → spoilt v ≡ kids_of (visit_from f pool n from) pool n j h v
-      at_head (Branch b) l = absurd (omega arith)
-      at_head Wrong l = refl
+      at_head : (h : Option ℕ) → Between w h → spoilt v ≡ kids_of (visit_from f pool n from) pool n j h v
+      at_head (Some b) l = absurd (omega arith)
+      at_head None l = refl
 
   -- a bound that leaves one node for each digit that is left is not seen
   pub visit_bound_unseen : (f g w r : ℕ) (v : Visit) → 16 ≤ f + w → 16 ≤ g + w → visit_from f pool n from w r v ≡ visit_from g pool n from w r v
@@ -122,70 +130,51 @@ module _ (pool : List ℕ) (n from : ℕ) where
       ∙ node_same (visit_from f pool n from) (visit_from (suc f) pool n from) w j v
       (λ d y u g. visit_bound_unseen f (suc f) d y u (omega arith) (omega arith))
 
+  -- ---- a node's children
   -- the visit of child m of node j, which branches at b
   abbrev pub kid : ℕ → ℕ → ℕ → Visit → Visit
   kid b j m = visit_from 17 pool n from (b + 1) (child_at pool n j m)
 
-  kid_empty : (b j m : ℕ) (v : Visit) → is_child pool n j m ≡ false → kid b j m v ≡ v
-  kid_empty b j m v e = visit_empty 17 (b + 1) (child_at pool n j m) v (eqb-true (child_at pool n j m) 0 (not-false (eqb (child_at pool n j m) 0) e))
+  -- a node that has none, and one that has one, by its lowest
+  module _ (j w : ℕ) (v : Visit) {y : Option ℕ} {b h : ℕ} {o : Option ℕ} (e : h ≡ header_at pool n j) (k : y ≡ head_of w h) (q : y ≡ Some b)
+      (s : o ≡ place_of (lowest_child pool n j)) where
+    pub node_childless : is_some o ≡ false → spoilt v ≡ node_of (visit_from 17 pool n from) pool n w j v
+    node_childless f =
+        let l = place_missing (lowest_child pool n j) (rw (← s) f) in
+        let z : children_of pool n j ≡ 0 = tally_none (is_child pool n j) 16 (λ m g. scan_passes (is_child pool n j) 16 0 m (omega arith) (omega arith)) in
+        rw (← e, ← k, q, eq-eqb (children_of pool n j) 0 z)
 
-  -- a child that is no node may be visited with no node left; any other with the digits that are left
-  module _ (b j m : ℕ) {r : ℕ} (u : Visit) {v : Visit} (e : r ≡ child_at pool n j m) where
-    pub kid_end : r ≤ 1024 → v ≡ visit_from 0 pool n from 16 r u → v ≡ kid b j m u
-    kid_end h q = q ∙ visit_end 0 17 16 (b + 1) r u (low_no_node n r h) ∙ ap (λ (x : ℕ). visit_from 17 pool n from (b + 1) x u) e
+    pub node_visits : is_some o ≡ true → upto 16 (kid b j) v ≡ node_of (visit_from 17 pool n from) pool n w j v
+    node_visits f =
+        let l = place_there (lowest_child pool n j) (rw (← s) f) in
+        let z = tally_some (is_child pool n j) 16 (lowest_child pool n j) l (scan_true (is_child pool n j) 16 0 (omega arith)) in
+        rw (← e, ← k, q, ne_eqb (children_of pool n j) 0 z)
 
-    pub kid_ref : b < 16 → v ≡ visit_from 17 pool n from (16 - (16 - 1 - b)) r u → v ≡ kid b j m u
-    kid_ref h q =
-        let z : 16 - (16 - 1 - b) ≡ b + 1 = omega arith in
-        q ∙ rw (z, e)
+  -- the visit of node j, which branches at b, has come from o past so many of its children to u
+  module _ (b j : ℕ) (o : Visit) (i : ℕ) {r : ℕ} {u : Visit} (e : r ≡ child_at pool n j i) (p : u ≡ upto i (kid b j) o) where
+    -- an empty one changes nothing
+    pub kids_same : r ≡ 0 → u ≡ upto (i + 1) (kid b j) o
+    kids_same z = upto_next (kid b j) o i p (sym (visit_empty 17 (b + 1) (child_at pool n j i) u (sym e ∙ z)))
 
-  -- ---- what a node's header and its first child tell
-  module _ (j w : ℕ) (v : Visit) {y : Head} {h : ℕ} (e : h ≡ header_at pool n j) (k : y ≡ head_of w h) where
-    pub node_refused : y ≡ Wrong → node_of (visit_from 17 pool n from) pool n w j v ≡ spoilt v
-    node_refused q = rw (← e, ← k, q)
+    module _ {v : Visit} (l : b < 16) (q : v ≡ visit_from 17 pool n from (16 - (16 - 1 - b)) r u) where
+      pub kids_next : v ≡ upto (i + 1) (kid b j) o
+      kids_next =
+          let z : 16 - (16 - 1 - b) ≡ b + 1 = omega arith in
+          upto_next (kid b j) o i p (q ∙ rw (z, e))
 
-    module _ {b c : ℕ} (q : y ≡ Branch b) (s : c ≡ scan (16 - 0) 0 (is_child pool n j)) where
-      pub node_childless : 16 ≤ c → node_of (visit_from 17 pool n from) pool n w j v ≡ spoilt v
-      node_childless l =
-          let z : children_of pool n j ≡ 0 = tally_none (is_child pool n j) 16 (λ m g. scan_passes (is_child pool n j) 16 0 m (omega arith) (omega arith)) in
-          rw (← e, ← k, q, eq-eqb (children_of pool n j) 0 z)
-
-      pub node_visits : c < 16 → node_of (visit_from 17 pool n from) pool n w j v ≡ upto 16 (kid b j) v
-      node_visits l =
-          let z = tally_some (is_child pool n j) 16 c l (rw s (scan_true (is_child pool n j) 16 0 (omega arith))) in
-          rw (← e, ← k, q, ne_eqb (children_of pool n j) 0 z)
-
-  -- ---- a node's children, those that are not empty
-  module _ (b j : ℕ) (o : Visit) where
-    -- empty children may be left out
-    kids_skip : (i : ℕ) {c : ℕ} → c ≡ scan (16 - i) i (is_child pool n j) → upto i (kid b j) o ≡ upto c (kid b j) o
-    kids_skip i e =
-        let t = is_child pool n j in
-        rw e
-        (upto_idle (kid b j) o i (scan (16 - i) i t) (scan_ge t (16 - i) i) (λ m p q. kid_empty b j m (upto i (kid b j) o) (scan_passes t (16 - i) i m p q)))
-
-    pub kids_first : {c : ℕ} → c ≡ scan (16 - 0) 0 (is_child pool n j) → o ≡ upto c (kid b j) o
-    unfolding upto
-    kids_first e = kids_skip 0 e
-
-    module _ (i : ℕ) {u v : Visit} (p : u ≡ upto i (kid b j) o) (q : v ≡ kid b j i u) where
-      pub kids_next : {c : ℕ} → c ≡ scan (16 - (i + 1)) (i + 1) (is_child pool n j) → v ≡ upto c (kid b j) o
-      kids_next e = upto_next (kid b j) o i p q ∙ kids_skip (i + 1) e
-
-      -- once the visit is over the children that are left may be left out too
+      -- once the visit is over the children that are left may be left out
       pub kids_over : i < 16 → (v.state.phase ≡ 0 → ⊥) → v ≡ upto 16 (kid b j) o
-      kids_over l h =
-          let z = upto_next (kid b j) o i p q in
-          z ∙ upto_idle (kid b j) o (i + 1) 16 (omega arith) (λ m _ _. visit_over 17 (b + 1) (child_at pool n j m) (rw (← z) h))
+      kids_over g h =
+          kids_next ∙ upto_idle (kid b j) o (i + 1) 16 (omega arith) (λ m _ _. visit_over 17 (b + 1) (child_at pool n j m) (rw (← kids_next) h))
 
   -- ---- what damage and every leaf keep, a visit keeps
   module _ (P : Visit → Type 0) (damage : (v : Visit) → P v → P (spoilt v)) (leaf : (key value : ℕ) (v : Visit) → P v → P (leaf_of n from key value v)) where
-    kids_keep : (go : ℕ → ℕ → Visit → Visit) → ((d r : ℕ) (v : Visit) → P v → P (go d r v)) → (j : ℕ) (h : Head) (v : Visit) → P v
+    kids_keep : (go : ℕ → ℕ → Visit → Visit) → ((d r : ℕ) (v : Visit) → P v → P (go d r v)) → (j : ℕ) (h : Option ℕ) (v : Visit) → P v
         → P (kids_of go pool n j h v)
-    kids_keep go k j (Branch b) v p =
+    kids_keep go k j (Some b) v p =
         pick_case P (eqb (children_of pool n j) 0) (λ e. damage v p)
         (λ e. upto_keeps P (λ c. go (b + 1) (child_at pool n j c)) (λ c u. k (b + 1) (child_at pool n j c) u) 16 v p)
-    kids_keep go k j Wrong v p = damage v p
+    kids_keep go k j None v p = damage v p
 
     turn_keeps : (f w r : ℕ) (v : Visit) → ((j : ℕ) (u : Visit) → P u → P (node_from f w j u)) → P v → P (visit_from f pool n from w r v)
     turn_keeps f w r v k p = rw (visit_turn f w r v) (pick_case P (eqb v.state.phase 0) (λ e. go (ref_of n r)) (λ e. p))

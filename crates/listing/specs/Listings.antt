@@ -1,23 +1,28 @@
 -- Listing: the entries from a key on, in any run of words, into two lent buffers.
 -- Assumes nothing.
-use Rattle.std.specs.Prelude.{◌≡◌, Bool, false, List, ℕ, zero, suc, ◌+◌, eqb, leb, ltb, length, set, replicate}
+use Rattle.std.specs.Prelude.{◌≡◌, Bool, false, List, ℕ, zero, suc, ◌+◌, eqb, leb, ltb, length, set, replicate, None, Option, Some, Result, Ok, Err}
 use Rattle.digits.specs.Choice.{pick}
 use Rattle.digits.specs.Loops.{upto}
 use Rattle.pool.specs.Sizes.{capacity_of}
 use Rattle.pool.specs.Places.{word_at, key_at, value_at, header_at, child_at}
 use Rattle.pool.specs.Refs.{ref_of}
-use Rattle.pool.specs.declared.Size.{Size}
-use Rattle.pool.specs.declared.Size.TheVariants.{Holds, Wrong}
 use Rattle.pool.specs.declared.Ref.{Ref}
 use Rattle.pool.specs.declared.Ref.TheVariants.{Empty, Leaf, Node, Bad}
 use Rattle.walk.specs.Walks.{head_of, children_of}
-use Rattle.walk.specs.declared.Head.{Head}
-use Rattle.walk.specs.declared.Head.TheVariants.{Branch, Wrong as Unaccepted}
-use Rattle.listing.specs.declared.State.{State}
+use Rattle.refusals.specs.declared.Refusal.{Refusal}
+use Rattle.refusals.specs.Refusals.{number_of}
+use Rattle.listing.specs.declared.visit.Stop.{Stop}
+use Rattle.listing.specs.declared.visit.Stop.TheVariants.{Further, Damage}
+use Rattle.listing.specs.declared.visit.Listing.{Listing}
 use Rattle.listing.specs.declared.Listed.{Listed}
 
--- the two buffers, and the state of the visit: entries handed out, leaves met, and a phase: 0 the visit goes on, 1 a further entry was found,
--- 2 damage was met
+-- the state of a visit: entries handed out, leaves met, and a phase: 0 the visit goes on, 1 a further entry was found, 2 damage was met
+pub record State : Type 0 where
+  pub count : ℕ
+  pub met : ℕ
+  pub phase : ℕ
+
+-- the two buffers, and the state of the visit
 pub record Visit : Type 0 where
   pub keys : List ℕ
   pub values : List ℕ
@@ -46,10 +51,10 @@ leaf_of n from key value v =
 
 -- "a node's visit visits its sixteen references, lowest first, no subtree skipped. The walk's damage rules hold at each visit: the root has
 -- w = 0, a node's children w = b+1." "a childless node .. refuses"
-abbrev pub kids_of : (ℕ → ℕ → Visit → Visit) → List ℕ → ℕ → ℕ → Head → Visit → Visit
-kids_of go pool n j (Branch b) v =
+abbrev pub kids_of : (ℕ → ℕ → Visit → Visit) → List ℕ → ℕ → ℕ → Option ℕ → Visit → Visit
+kids_of go pool n j (Some b) v =
     pick (eqb (children_of pool n j) 0) (spoilt v) (upto 16 (λ c. go (b + 1) (child_at pool n j c)) v)
-kids_of go pool n j Unaccepted v = spoilt v
+kids_of go pool n j None v = spoilt v
 
 abbrev pub node_of : (ℕ → ℕ → Visit → Visit) → List ℕ → ℕ → ℕ → ℕ → Visit → Visit
 node_of go pool n w j v = kids_of go pool n j (head_of w (header_at pool n j)) v
@@ -79,8 +84,26 @@ abbrev pub listed : ℕ → ℕ → Bool → Told
 listed k c further = told k c (pick further 1 0)
 
 -- the numbers of the code's answer
-abbrev pub numbers : Listed → Told
-numbers a = listed a.number a.count a.more
+abbrev pub numbers : Result Listed Refusal → Told
+numbers (Ok a) = listed 0 a.count a.more
+numbers (Err r) = listed (number_of r) 0 false
+
+-- ---- a listing of the code's
+-- the phase that its last visit left
+abbrev pub phase_of : Result (Unit {0}) Stop → ℕ
+phase_of (Ok u) = 0
+phase_of (Err Further) = 1
+phase_of (Err Damage) = 2
+
+-- the visit that it stands for
+abbrev pub visited : Listing → Result (Unit {0}) Stop → Visit
+visited l r = visit l.keys.now l.values.now (state l.count l.met (phase_of r))
+
+-- the same key to begin with, and the same buffers
+pub record Same (l l' : Listing) : Type 0 where
+  pub from : l'.from ≡ l.from
+  pub keys : l'.keys.ghost_name ≡ l.keys.ghost_name
+  pub values : l'.values.ghost_name ≡ l.values.ghost_name
 
 -- what a listing leaves: the buffers and the answer
 pub record Shown : Type 0 where
@@ -99,13 +122,13 @@ judged v =
     (shown v.keys v.values (listed 0 v.state.count (eqb v.state.phase 1)))
 
 -- "6 | listing buffers of length 0 or of unequal length". "Order: 1, 6, 2"
-abbrev pub list_in : List ℕ → ℕ → List ℕ → List ℕ → Size → Shown
-list_in pool from ks vs (Holds n) =
+abbrev pub list_in : List ℕ → ℕ → List ℕ → List ℕ → Option ℕ → Shown
+list_in pool from ks vs (Some n) =
     pick (eqb (length ks) 0) (shown ks vs (listed 6 0 false))
     (pick (eqb (length ks) (length vs))
     (judged (visit_from 17 pool n from 0 (word_at pool 1) (visit ks vs (state 0 0 0))))
     (shown ks vs (listed 6 0 false)))
-list_in pool from ks vs Wrong = shown ks vs (listed 1 0 false)
+list_in pool from ks vs None = shown ks vs (listed 1 0 false)
 
 unfoldable pub list_of : List ℕ → ℕ → List ℕ → List ℕ → Shown
 list_of pool from ks vs = list_in pool from ks vs (capacity_of pool)

@@ -1,5 +1,6 @@
 -- What an opening answers and leaves, and what its planning call answers, for every run of words there is.
 -- Assumes nothing.
+use Rattle.std.specs.Prelude.{None, Option, Some}
 use mathlib.Core.Path.{◌≡◌, refl, sym, ◌∙◌}
 use mathlib.Core.Bool.{Bool, true, false}
 use mathlib.Core.List.{List, []}
@@ -13,30 +14,22 @@ use Rattle.digits.specs.Loops.{upto}
 use Rattle.tree.specs.Stores.{Store}
 use Rattle.tree.proofs.Stores.{Words}
 use Rattle.pool.specs.Sizes.{Sized, capacity_of, bytes_of}
-use Rattle.pool.specs.Places.{header_at, node_word, node_ref}
-use Rattle.pool.specs.declared.Size.{Size}
-use Rattle.pool.specs.declared.Size.TheVariants.{Holds, Wrong}
 use Rattle.pool.proofs.Sizes.{size_fits}
-use Rattle.walk.specs.Walks.{head_of, lowest_of}
-use Rattle.walk.specs.declared.Head.{Head}
-use Rattle.walk.specs.declared.Head.TheVariants.{Branch, Wrong as Unaccepted}
-use Rattle.walk.specs.declared.Lowest.{Lowest}
-use Rattle.walk.specs.declared.Lowest.TheVariants.{Key, NoKey}
 use Rattle.plan.specs.Plans.{Decided}
 use Rattle.plan.specs.declared.Effect.TheVariants.{Nothing}
 use Rattle.plan.proofs.Laws.{length_made}
 use Rattle.survey.specs.Surveys.{survey_of}
 use Rattle.survey.proofs.Loops.{pick_both}
-use Rattle.opening.specs.Openings.{depth_marked, stale, mend_with, mend_at, mend_of, first_stale, mend_first, open_in, open_plan, Mended, mend_node, mended, reached, opened, Left, left, restored, left_in, open_of}
-use Rattle.opening.proofs.Openings.{at_most_one_store, bytes_flat, few_keys}
+use Rattle.opening.specs.Openings.{depth_marked, stale, mend_of, first_stale, mend_first, open_in, open_plan, Mended, mend_node, mended, reached, opened, Left, left, restored, left_in, open_of}
+use Rattle.opening.proofs.Openings.{at_most_one_store, mend_inside, bytes_flat, few_keys}
 use Rattle.opening.proofs.Marks.{survey_length}
 
 -- a run that has a capacity fits it
-sized : (pool : List ℕ) {n : ℕ} → capacity_of pool ≡ Holds n → Sized pool n
+sized : (pool : List ℕ) {n : ℕ} → capacity_of pool ≡ Some n → Sized pool n
 unfolding capacity_of
 sized pool e = rw e at (size_fits pool (get_or pool 0 0))
 
-holds_same : {k n : ℕ} → ◌≡◌ {A = Size} (Holds k) (Holds n) → k ≡ n
+holds_same : {k n : ℕ} → ◌≡◌ {A = Option ℕ} (Some k) (Some n) → k ≡ n
 holds_same e = cc
 
 -- ---- the planning call
@@ -48,25 +41,13 @@ pub record Modest (pool : List ℕ) (d : Decided) : Type 0 where
   pub effect : d.effect ≡ Nothing
 
 module _ (pool : List ℕ) where
-  mend_inside : (n w j : ℕ) → node_word n j < length pool → Words (λ x. x < length pool) (mend_of pool n w j)
-  unfolding Words
-  mend_inside n w j l = go (head_of w (header_at pool n j))
-    where
-      low : (b : ℕ) (k : Lowest) → Words (λ x. x < length pool) (mend_with n w j b k)
-      low b (Key k) = (l, tt)
-      low b (NoKey f) = tt
-
-      go : (h : Head) → Words (λ x. x < length pool) (mend_at pool n w j h)
-      go (Branch b) = low b (lowest_of pool n w 0 (node_ref j))
-      go Unaccepted = tt
-
   first_inside : (n : ℕ) → Sized pool n → (marks : List ℕ) → Words (λ x. x < length pool) (mend_first pool n marks)
   unfolding Words
   first_inside n z marks = go (ltb (first_stale pool n marks) (n - 1)) refl
     where
       go : (t : Bool) → ltb (first_stale pool n marks) (n - 1) ≡ t
           → Words (λ x. x < length pool) (pick t (mend_of pool n (depth_marked marks n (first_stale pool n marks)) (first_stale pool n marks)) [])
-      go true e = mend_inside n _ _ (omega (arith, ltb-true (first_stale pool n marks) (n - 1) e))
+      go true e = mend_inside pool n _ _ (omega (arith, ltb-true (first_stale pool n marks) (n - 1) e))
       go false e = tt
 
   first_few : (n : ℕ) (marks : List ℕ) → length (mend_first pool n marks) ≤ 1
@@ -78,12 +59,12 @@ module _ (pool : List ℕ) where
   unfolding open_plan Words
   plan_modest = go (capacity_of pool) refl
     where
-      go : (x : Size) → capacity_of pool ≡ x → Modest pool (open_in pool x)
-      go (Holds n) e =
+      go : (x : Option ℕ) → capacity_of pool ≡ x → Modest pool (open_in pool x)
+      go (Some n) e =
           pick_both (Modest pool) (survey_of pool n).census.sound
           (record { number≤ = omega arith; one = first_few n (survey_of pool n).marks; inside = first_inside n (sized pool e) (survey_of pool n).marks; effect = refl })
           (record { number≤ = omega arith; one = omega arith; inside = tt; effect = refl })
-      go Wrong e = record { number≤ = omega arith; one = omega arith; inside = tt; effect = refl }
+      go None e = record { number≤ = omega arith; one = omega arith; inside = tt; effect = refl }
 
 -- ---- the headers mended
 module _ (n : ℕ) (marks pool : List ℕ) where
@@ -111,7 +92,7 @@ module _ (n : ℕ) (marks pool : List ℕ) where
 -- ---- the whole call
 -- the pool and the map judged: the map has the pool's length, and whether all is sound
 pub record Judged (pool bytes : List ℕ) (n : ℕ) (sound : Bool) : Type 0 where
-  pub size : capacity_of pool ≡ Holds n
+  pub size : capacity_of pool ≡ Some n
   pub long : length bytes ≡ bytes_of n
   pub judged : (survey_of pool n).census.sound ≡ sound
 
@@ -126,16 +107,16 @@ module _ (pool bytes : List ℕ) where
   unfolding open_of
   open_leaves = go (capacity_of pool) refl
     where
-      at : (n : ℕ) → capacity_of pool ≡ Holds n → (t : Bool) → eqb (length bytes) (bytes_of n) ≡ t → (s : Bool) → (survey_of pool n).census.sound ≡ s
+      at : (n : ℕ) → capacity_of pool ≡ Some n → (t : Bool) → eqb (length bytes) (bytes_of n) ≡ t → (s : Bool) → (survey_of pool n).census.sound ≡ s
           → Leaves pool bytes (pick t (pick s (restored n (survey_of pool n).marks pool) (left (opened 2 0 0) pool (replicate (length bytes) 0)))
           (left (opened 1 0 0) pool bytes))
       at n e true f true g = done n (record { size = e; long = eqb-true (length bytes) (bytes_of n) f; judged = g })
       at n e true f false g = damage n (record { size = e; long = eqb-true (length bytes) (bytes_of n) f; judged = g })
       at n e false f s g = size
 
-      go : (x : Size) → capacity_of pool ≡ x → Leaves pool bytes (left_in pool bytes x)
-      go (Holds n) e = at n e (eqb (length bytes) (bytes_of n)) refl (survey_of pool n).census.sound refl
-      go Wrong e = size
+      go : (x : Option ℕ) → capacity_of pool ≡ x → Leaves pool bytes (left_in pool bytes x)
+      go (Some n) e = at n e (eqb (length bytes) (bytes_of n)) refl (survey_of pool n).census.sound refl
+      go None e = size
 
   pub open_number : (open_of pool bytes).answer.number ≤ 2
   open_number = go open_leaves
@@ -190,7 +171,7 @@ module _ (pool bytes : List ℕ) where
       go (done n j) e i = bytes_flat (survey_of pool n).marks i
 
   -- no more keys than leaves, and no more headers than nodes
-  pub open_counts : (n : ℕ) → capacity_of pool ≡ Holds n → ((open_of pool bytes).answer.keys ≤ n) × ((open_of pool bytes).answer.headers ≤ n - 1)
+  pub open_counts : (n : ℕ) → capacity_of pool ≡ Some n → ((open_of pool bytes).answer.keys ≤ n) × ((open_of pool bytes).answer.headers ≤ n - 1)
   open_counts n e = go open_leaves
     where
       go : {x : Left} → Leaves pool bytes x → (x.answer.keys ≤ n) × (x.answer.headers ≤ n - 1)

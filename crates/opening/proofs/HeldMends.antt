@@ -1,5 +1,6 @@
 -- A stale header mended: what is stored, that the pool holds the tree as before, and that the header is straight then.
 -- Rests on marks, and on the layout's law of headers. Assumes nothing.
+use Rattle.std.specs.Prelude.{Ok, Some}
 use mathlib.Core.Path.{◌≡◌, refl, sym, ap, ◌∙◌, subst}
 use mathlib.Core.Bool.{Bool, true, false}
 use mathlib.Core.Logic.{◌≢◌, ◌⊎◌, inl, inr}
@@ -33,8 +34,6 @@ use Rattle.layout.proofs.Headers.{reheaded}
 use Rattle.layout.proofs.Stales.{depths_same, header_depth, header_others, node_straight}
 use Rattle.walk.specs.Walks.{head_of, lowest_of}
 use Rattle.walk.specs.Ends.{Accepted}
-use Rattle.walk.specs.declared.Head.TheVariants.{Branch}
-use Rattle.walk.specs.declared.Lowest.TheVariants.{Key}
 use Rattle.held.specs.Ways.{dig, mem}
 use Rattle.held.proofs.Heads.{Headed, held_head, held_node}
 use Rattle.held.proofs.Lowest.{low_held}
@@ -140,13 +139,13 @@ module _ (n : ℕ) (pos : 1 ≤ n) (cap : n ≤ 1024) (t : Tree ℕ) where
       ref_is : r ≡ node_ref j
       ref_is = (subst (Decoded n r) accepted.refers (decoded n r)).1 ∙ ap node_ref back
 
-      head_is : head_of w (header_at pool n j) ≡ Branch S.b
+      head_is : head_of w (header_at pool n j) ≡ Some S.b
       head_is = ap (λ i. head_of w (header_at pool n i)) (sym back) ∙ accepted.head
 
       pub bounds : (w ≤ S.b) × (S.b < 16)
       bounds = (accepted.w≤b, accepted.b<)
 
-      low_is : lowest_of pool n w 0 (node_ref j) ≡ Key (low u)
+      low_is : lowest_of pool n w 0 (node_ref j) ≡ Ok (low u)
       low_is =
           ap (lowest_of pool n w 0) (sym ref_is)
           ∙ low_held pool n 17 w 0 r (pre dig S.π (λ i. 0) t) u holds good tt (omega (arith, bounds)) (omega arith)

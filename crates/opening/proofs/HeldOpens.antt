@@ -1,6 +1,7 @@
 -- Opening a pool that holds a tree: each store of the planning call keeps the tree; open makes just these in turn until there is none, and then the
 -- pool is straight and the map marks just the tree's slots.
 -- Assumes nothing.
+use Rattle.std.specs.Prelude.{Some}
 use mathlib.Core.Path.{◌≡◌, refl, sym, ap, ◌∙◌, subst}
 use mathlib.Core.Bool.{Bool, true, false, not}
 use mathlib.Core.Logic.{◌≢◌, ◌⊎◌, inl, inr}
@@ -16,7 +17,6 @@ use Rattle.digits.specs.Loops.{upto}
 use Rattle.digits.specs.Headers.{depth_of}
 use Rattle.pool.specs.Sizes.{size_of, capacity_of, bytes_of}
 use Rattle.pool.specs.Places.{word_at, header_at, node_word}
-use Rattle.pool.specs.declared.Size.TheVariants.{Holds}
 use Rattle.tree.specs.Tree.{Tree, one, mult, leaves, dep}
 use Rattle.tree.specs.Stores.{Store}
 use Rattle.tree.proofs.Basics.{Same?, same, other, same?, less?, last?, true_not_false, sum_same, tally_sum}
@@ -51,7 +51,7 @@ module _ (n : ℕ) (pos : 1 ≤ n) (cap : n ≤ 1024) (t : Tree ℕ) where
     pub held : Held 16 n (mem pool) t
 
   module _ (pool : List ℕ) (P : Pool pool) where
-    pub capacity_is : capacity_of pool ≡ Holds n
+    pub capacity_is : capacity_of pool ≡ Some n
     unfolding capacity_of size_of
     capacity_is = rw (P.first, le-ltb n 1 pos, le-ltb 1024 n cap, eq-eqb (length pool) (19 * n - 15) (omega (arith, P.size)))
 

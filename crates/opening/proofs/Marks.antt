@@ -1,5 +1,6 @@
 -- What a survey marks: slots that were not marked before, one after the other. So it meets each slot at most once: at most n leaves and n - 1
 -- nodes, and as many leaves as it finds keys. Assumes nothing.
+use Rattle.std.specs.Prelude.{None, Option, Some}
 use mathlib.Core.Path.{◌≡◌, refl, sym, ◌∙◌}
 use mathlib.Core.Bool.{Bool, true, false, not}
 use mathlib.Core.List.{List, [], ◌∷◌}
@@ -19,8 +20,6 @@ use Rattle.pool.specs.declared.Ref.{Ref}
 use Rattle.pool.specs.declared.Ref.TheVariants.{Empty, Leaf, Node, Bad}
 use Rattle.pool.proofs.Refs.{within}
 use Rattle.walk.specs.Walks.{head_of, Between, children_of}
-use Rattle.walk.specs.declared.Head.{Head}
-use Rattle.walk.specs.declared.Head.TheVariants.{Branch, Wrong}
 use Rattle.walk.proofs.Heads.{between}
 use Rattle.walk.proofs.Loops.{tally_le}
 use Rattle.survey.specs.Surveys.{Survey, survey, census, leaf_met, Gathered, gathered, gather, kid_of, closed, node_met, ref_met, survey_from, survey_of}
@@ -70,8 +69,8 @@ module _ (pool : List ℕ) (n : ℕ) where
         (λ c x p. pick_both P (eqb (child_at pool n j c) 0) p (and_then p (marks (b + 1) (child_at pool n j c) (survey x.marks x.sum.census)))) 0 16
         (omega arith) none
 
-    node_marking : (w j : ℕ) (v : Survey) → j + 1 < n → (h : Head) → Between w h → Marking n v.marks (node_met go pool n w j h v).marks
-    node_marking w j v l (Branch b) g =
+    node_marking : (w j : ℕ) (v : Survey) → j + 1 < n → (h : Option ℕ) → Between w h → Marking n v.marks (node_met go pool n w j h v).marks
+    node_marking w j v l (Some b) g =
         pick_both (λ (x : Survey). Marking n v.marks x.marks) (ltb (children_of pool n j) 2) none (met (eqb (get_or v.marks (n + j) 0) 0) refl)
       where
         kids : Gathered
@@ -83,7 +82,7 @@ module _ (pool : List ℕ) (n : ℕ) where
             node j w l (omega arith) (eqb-true (get_or v.marks (n + j) 0) 0 e)
             (kids_marking j b (gathered (set v.marks (n + j) (w + 1)) (gather v.census 0 false)))
         met false e = none
-    node_marking w j v l Wrong g = none
+    node_marking w j v l None g = none
 
   ref_marking : (f w r : ℕ) (v : Survey) → ((j : ℕ) → j + 1 < n → Marking n v.marks (node_from pool n f w j v).marks)
       → Marking n v.marks (survey_from f pool n w r v).marks

@@ -1,26 +1,20 @@
 -- Opening: judge the whole pool, mend the stale headers, mark what is reached.
 -- Assumes nothing.
-use Rattle.std.specs.Prelude.{◌≡◌, Bool, false, not, List, [], ◌∷◌, map, ℕ, zero, suc, ◌+◌, ◌-◌, eqb, ltb, length, get_or, replicate}
+use Rattle.std.specs.Prelude.{◌≡◌, Bool, false, not, List, [], ◌∷◌, map, ℕ, zero, suc, ◌+◌, ◌-◌, eqb, ltb, length, get_or, replicate, Option, Some, None, Result, Ok, Err}
 use Rattle.digits.specs.Choice.{pick}
 use Rattle.digits.specs.Loops.{upto, scan, tally}
 use Rattle.digits.specs.Headers.{header_of, depth_of}
 use Rattle.tree.specs.Stores.{Store}
 use Rattle.pool.specs.Sizes.{capacity_of, bytes_of}
 use Rattle.pool.specs.Places.{header_at, node_word, node_ref}
-use Rattle.pool.specs.declared.Size.{Size}
-use Rattle.pool.specs.declared.Size.TheVariants.{Holds, Wrong}
+use Rattle.walk.specs.declared.Fault.{Fault}
 use Rattle.walk.specs.Walks.{head_of, lowest_of}
-use Rattle.walk.specs.declared.Head.{Head}
-use Rattle.walk.specs.declared.Head.TheVariants.{Branch, Wrong as Unaccepted}
-use Rattle.walk.specs.declared.Lowest.{Lowest}
-use Rattle.walk.specs.declared.Lowest.TheVariants.{Key, NoKey}
-use Rattle.plan.specs.Plans.{one_group, made, Decided, decided, refused, planned_for}
-use Rattle.plan.specs.declared.Planned.{Planned}
+use Rattle.plan.specs.Plans.{one_group, made, Decided, decided, refused, planned_for, Planned}
 use Rattle.plan.specs.declared.Effect.TheVariants.{Nothing}
 use Rattle.survey.specs.Surveys.{Survey, survey_of}
+use Rattle.refusals.specs.Refusals.{number_of}
+use Rattle.refusals.specs.declared.Refusal.{Refusal}
 use Rattle.opening.specs.declared.mending.Opened.{Opened}
-use Rattle.opening.specs.declared.mending.Fresh.{Fresh}
-use Rattle.opening.specs.declared.mending.Fresh.TheVariants.{Header, NoHeader}
 
 -- the walk depth that a mark says
 abbrev pub depth_marked : List ℕ → ℕ → ℕ → ℕ
@@ -30,23 +24,27 @@ depth_marked marks n j = get_or marks (n + j) 0 - 1
 abbrev pub stale : List ℕ → ℕ → List ℕ → ℕ → Bool
 stale pool n marks j = pick (eqb (get_or marks (n + j) 0) 0) false (ltb (depth_marked marks n j) (depth_of (header_at pool n j)))
 
+-- the code's answer for node j: the walk depth at which it was met, where it is stale
+abbrev pub stale_depth : List ℕ → ℕ → List ℕ → ℕ → Option ℕ
+stale_depth pool n marks j = pick (stale pool n marks j) (Some (depth_marked marks n j)) None
+
 -- "rewrites each stale header (depth w, same branch place, digits from w of the keys below) as one store each": node j, which branches at b
-abbrev pub mend_with : ℕ → ℕ → ℕ → ℕ → Lowest → List Store
-mend_with n w j b (Key k) = record { word = node_word n j; value = header_of w (b - w) k } ∷ []
-mend_with n w j b (NoKey f) = []
+abbrev pub mend_with : ℕ → ℕ → ℕ → ℕ → Result ℕ Fault → List Store
+mend_with n w j b (Ok k) = record { word = node_word n j; value = header_of w (b - w) k } ∷ []
+mend_with n w j b (Err f) = []
 
 -- the lowest leaf is looked for after the whole pool was judged: no word is named
-abbrev pub mend_at : List ℕ → ℕ → ℕ → ℕ → Head → List Store
-mend_at pool n w j (Branch b) = mend_with n w j b (lowest_of pool n w 0 (node_ref j))
-mend_at pool n w j Unaccepted = []
+abbrev pub mend_at : List ℕ → ℕ → ℕ → ℕ → Option ℕ → List Store
+mend_at pool n w j (Some b) = mend_with n w j b (lowest_of pool n w 0 (node_ref j))
+mend_at pool n w j None = []
 
 abbrev pub mend_of : List ℕ → ℕ → ℕ → ℕ → List Store
 mend_of pool n w j = mend_at pool n w j (head_of w (header_at pool n j))
 
 -- the stores of the code's answer for node j
-abbrev pub fresh_stores : ℕ → ℕ → Fresh → List Store
-fresh_stores n j (Header word) = record { word = node_word n j; value = word } ∷ []
-fresh_stores n j NoHeader = []
+abbrev pub fresh_stores : ℕ → ℕ → Option ℕ → List Store
+fresh_stores n j (Some word) = record { word = node_word n j; value = word } ∷ []
+fresh_stores n j None = []
 
 -- "A planning call answers the first such store as a plan, or a plan of none": "lower-numbered nodes first"
 abbrev pub first_stale : List ℕ → ℕ → List ℕ → ℕ
@@ -62,9 +60,9 @@ mend_first pool n marks =
 abbrev pub open_judged : List ℕ → ℕ → Survey → Decided
 open_judged pool n v = pick v.census.sound (decided (mend_first pool n v.marks) Nothing) (refused 2)
 
-abbrev pub open_in : List ℕ → Size → Decided
-open_in pool (Holds n) = open_judged pool n (survey_of pool n)
-open_in pool Wrong = refused 1
+abbrev pub open_in : List ℕ → Option ℕ → Decided
+open_in pool (Some n) = open_judged pool n (survey_of pool n)
+open_in pool None = refused 1
 
 unfoldable pub open_plan : List ℕ → Decided
 open_plan pool = open_in pool (capacity_of pool)
@@ -99,17 +97,28 @@ reached mark = pick (eqb mark 0) 0 1
 abbrev pub keys_of : ℕ → List ℕ → ℕ
 keys_of n marks = tally n (λ i. not (eqb (get_or marks i 0) 0))
 
+-- what an opening answers: 01's number, how many keys are held, how many headers were rewritten
+pub record Answer : Type 0 where
+  pub number : ℕ
+  pub keys : ℕ
+  pub headers : ℕ
+
+abbrev pub opened : ℕ → ℕ → ℕ → Answer
+opened k c h = record { number = k; keys = c; headers = h }
+
+-- the same of the code's answer, by its cases: 0 is done, and a refusal counts nothing
+abbrev pub told : Result Opened Refusal → Answer
+told (Ok a) = opened 0 a.keys a.headers
+told (Err r) = opened (number_of r) 0 0
+
 -- what an opening leaves: the answer, the pool and the map
 pub record Left : Type 0 where
-  pub answer : Opened
+  pub answer : Answer
   pub pool : List ℕ
   pub map : List ℕ
 
-abbrev pub left : Opened → List ℕ → List ℕ → Left
+abbrev pub left : Answer → List ℕ → List ℕ → Left
 left a pool bytes = record { answer = a; pool = pool; map = bytes }
-
-abbrev pub opened : ℕ → ℕ → ℕ → Opened
-opened k c h = record { number = k; keys = c; headers = h }
 
 -- a sound pool with these marks: its stale headers rewritten, its map rebuilt. "It answers the number of keys and of headers rewritten."
 abbrev pub restored : ℕ → List ℕ → List ℕ → Left
@@ -121,10 +130,10 @@ abbrev pub left_judged : List ℕ → List ℕ → ℕ → Survey → Left
 left_judged pool bytes n v =
     pick v.census.sound (restored n v.marks pool) (left (opened 2 0 0) pool (replicate (length bytes) 0))
 
-abbrev pub left_in : List ℕ → List ℕ → Size → Left
-left_in pool bytes (Holds n) =
+abbrev pub left_in : List ℕ → List ℕ → Option ℕ → Left
+left_in pool bytes (Some n) =
     pick (eqb (length bytes) (bytes_of n)) (left_judged pool bytes n (survey_of pool n)) (left (opened 1 0 0) pool bytes)
-left_in pool bytes Wrong = left (opened 1 0 0) pool bytes
+left_in pool bytes None = left (opened 1 0 0) pool bytes
 
 unfoldable pub open_of : List ℕ → List ℕ → Left
 open_of pool bytes = left_in pool bytes (capacity_of pool)

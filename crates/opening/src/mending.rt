@@ -1,245 +1,182 @@
 // Opening: the planning call, which answers the first store, and the whole call, which makes them all.
-ghost use Rattle.std.specs.Prelude.{◌≡◌, map as mapped, ℕ, ◌+◌, ◌-◌, ◌<◌, ◌≤◌, length, get_or, replicate};
+ghost use Rattle.std.specs.Prelude.{◌≡◌, map as mapped, ◌+◌, ◌-◌, ◌<◌, ◌≤◌, length, replicate};
 ghost use Rattle.pool.specs.Sizes.{Sized, bytes_of};
-ghost use Rattle.plan.specs.Plans.{one_group, plan_of, planned_of};
+ghost use Rattle.plan.specs.Plans.{one_group, plan_of, planned_of, outcome};
 ghost use Rattle.survey.specs.Surveys.{survey_of};
-ghost use Rattle.opening.specs.Openings.{depth_marked, stale, mend_of, fresh_stores, mend_first, open_judged, open_plan, PlanOpenGives, mends, mend_node, mended, reached, keys_of, opened, left, restored, left_judged, OpenGives};
+ghost use Rattle.opening.specs.Openings.{stale_depth, mend_of, fresh_stores, mend_first, open_judged, open_plan, PlanOpenGives, mends, mend_node, mended, reached, keys_of, told, left, restored, left_judged, OpenGives};
 
 use digits::Header;
-use plan::{Effect, Plan, Planned};
-use pool::Size;
-use walk::{Head, Lowest};
+use plan::{Effect, Generation, Plan};
+use pool::{Map, Pool};
+use refusals::Refusal;
 
-// What an opening answers: document 01's number, the keys held, the headers rewritten.
-#[derive(Clone, Copy)]
+// What an opening answers: the keys held, and the headers rewritten.
+#[derive(Clone, Copy, Debug, Default, PartialEq, Eq)]
 pub struct Opened {
-    pub number: u64,
     pub keys: usize,
     pub headers: usize,
 }
 
-// The header that a stale node is to have, or none.
-#[derive(Clone, Copy)]
-pub enum Fresh {
-    Header(u64),
-    NoHeader,
-}
-
-// Whether node j is stale: its header's depth is above the walk depth that its mark says.
-fn is_stale(pool: &[u64], n: usize, map: &[u8], j: usize) -> bool
-    requires { Sized pool.now n × (length map.now ≡ bytes_of n) × (j + 1 < n) }
-    ensures { result ≡ stale pool.now n map.now j }
+// The walk depth at which node j was met, as its mark says, if it is stale: its header's depth is above that.
+fn stale_depth(pool: &Pool, map: &Map, j: usize) -> Option<usize>
+    requires { (map.now.n ≡ pool.now.n) × (j + 1 < pool.now.n) }
+    ensures { result ≡ stale_depth pool.now.words.now pool.now.n map.now.bytes.now j }
 {
-    let mark = map[n + j] as usize;
-    if mark == 0 {
-        return false;
-    }
-    mark - 1 < Header::unpack(pool::header(pool, n, j)).depth
-}
-
-// The walk depth that the mark of node j says.
-fn marked_depth(map: &[u8], n: usize, j: usize) -> usize
-    requires { (length map.now ≡ bytes_of n) × (j + 1 < n) × (n ≤ 1024) }
-    ensures { result ≡ depth_marked map.now n j }
-{
-    let mark = map[n + j] as usize;
-    if mark == 0 { 0 } else { mark - 1 }
+    let w = usize::from(map.bytes[map.n + j]).checked_sub(1)?;
+    (w < Header::unpack(pool.header(j)).depth).then_some(w)
 }
 
 // The header that mends node j, met at walk depth w: the same branch place, digits from w of the keys below.
-fn fresh_header(pool: &[u64], n: usize, w: usize, j: usize) -> Fresh
-    requires { Sized pool.now n × (j + 1 < n) }
-    ensures { fresh_stores n j result ≡ mend_of pool.now n w j }
+fn fresh_header(pool: &Pool, w: usize, j: usize) -> Option<u64>
+    requires { j + 1 < pool.now.n }
+    ensures { fresh_stores pool.now.n j result ≡ mend_of pool.now.words.now pool.now.n w j }
 {
-    let Head::Branch(b) = walk::accept(w, pool::header(pool, n, j)) else {
-        return Fresh::NoHeader;
-    };
+    let b = walk::accept(w, pool.header(j))?;
     // The whole pool was judged before: no word is named here.
-    let Lowest::Key(near) = walk::lowest_leaf(pool, n, w, 0, pool::node_ref(j)) else {
-        return Fresh::NoHeader;
-    };
-    Fresh::Header(Header::pack(w, b - w, near))
+    let near = walk::lowest_leaf(pool, w, 0, pool::node_ref(j)).ok()?;
+    Some(Header::pack(w, b - w, near))
 }
 
 // The store that mends node j, met at walk depth w, as a plan.
-fn mend_plan(pool: &[u64], n: usize, w: usize, j: usize) -> Plan
-    requires { Sized pool.now n × (j + 1 < n) }
-    ensures { result ≡ plan_of one_group (mend_of pool.now n w j) Effect.Nothing }
+fn mend_plan(pool: &Pool, w: usize, j: usize) -> Plan
+    requires { j + 1 < pool.now.n }
+    ensures { result ≡ plan_of one_group (mend_of pool.now.words.now pool.now.n w j) Effect.Nothing }
 {
-    let Fresh::Header(word) = fresh_header(pool, n, w, j) else {
-        return Plan::none(Effect::Nothing);
-    };
-    Plan::one(pool::node_word(n, j), word, Effect::Nothing)
+    match fresh_header(pool, w, j) {
+        Some(word) => Plan::one(pool::node_word(pool.n, j), word, Effect::Nothing),
+        None => Plan::none(Effect::Nothing),
+    }
 }
 
 // The store of the lowest-numbered stale node, as a plan, or a plan of none.
-fn mend_first(pool: &[u64], n: usize, map: &[u8]) -> Plan
-    requires { Sized pool.now n × (length map.now ≡ bytes_of n) }
-    ensures { result ≡ plan_of one_group (mend_first pool.now n map.now) Effect.Nothing }
+fn mend_first(pool: &Pool, map: &Map) -> Plan
+    requires { map.now.n ≡ pool.now.n }
+    ensures { result ≡ plan_of one_group (mend_first pool.now.words.now pool.now.n map.now.bytes.now) Effect.Nothing }
 {
-    let mut j: usize = 0;
-    while j + 1 < n {
-        if is_stale(pool, n, map, j) {
-            return mend_plan(pool, n, marked_depth(map, n, j), j);
+    for j in 0..pool.n - 1 {
+        if let Some(w) = stale_depth(pool, map, j) {
+            return mend_plan(pool, w, j);
         }
-        j += 1;
     }
     Plan::none(Effect::Nothing)
 }
 
-// The first store that open makes on a pool of n leaves, surveyed into a map that is all 0.
-fn plan_with(pool: &[u64], n: usize, map: &mut [u8]) -> Planned
-    requires { Sized pool.now n × (map.old ≡ replicate (bytes_of n) 0) }
-    ensures { result ≡ planned_of one_group (open_judged pool.now n (survey_of pool.now n)) }
+// The first store that open makes on a pool, surveyed into a map that is all 0.
+fn plan_with(pool: &Pool, map: &mut [u8]) -> Result<Plan, Refusal>
+    requires { map.old ≡ replicate (bytes_of pool.now.n) 0 }
+    ensures { outcome result ≡ planned_of one_group (open_judged pool.now.words.now pool.now.n (survey_of pool.now.words.now pool.now.n)) }
 {
-    if !survey::survey(pool, n, map) {
-        return Planned::refused(2);
+    if !survey::survey(pool, map) {
+        return Err(Refusal::Damage);
     }
-    Planned {
-        number: 0,
-        plan: mend_first(pool, n, map),
-    }
-}
-
-// The same in a part of longer working memory, as long as the pool's map.
-fn plan_within(pool: &[u64], n: usize, scratch: &mut [u8]) -> Planned
-    requires { Sized pool.now n × (scratch.old ≡ replicate 2047 0) }
-    ensures { result ≡ planned_of one_group (open_judged pool.now n (survey_of pool.now n)) }
-{
-    let bytes = 2 * n - 1;
-    plan_with(pool, n, &mut scratch[0..bytes])
+    let marks = Map {
+        bytes: map,
+        n: pool.n,
+    };
+    Ok(mend_first(pool, &marks))
 }
 
 // The first store that open makes, or none.
-fn plan_any(pool: &[u64]) -> Planned
-    ensures { result ≡ planned_of one_group (open_plan pool.now) }
+#[tactic(auto, unfolding(crate::specs::Openings::open_plan))]
+fn plan_any(pool: &[u64]) -> Result<Plan, Refusal>
+    ensures { outcome result ≡ planned_of one_group (open_plan pool.now) }
 {
-    let Size::Holds(n) = pool::capacity(pool) else {
-        return Planned::refused(1);
-    };
+    let pool = Pool::of(pool).ok_or(Refusal::Size)?;
     let mut scratch = [0u8; 2047];
-    plan_within(pool, n, &mut scratch)
+    let bytes = 2 * pool.n - 1;
+    plan_with(&pool, &mut scratch[..bytes])
 }
 
 // The same for a generation, which is judged before all else.
-pub fn plan_open(pool: &[u64], generation: u64) -> Planned
-    ensures { PlanOpenGives pool.now generation result }
+pub fn plan_open(pool: &[u64], generation: u64) -> Result<Plan, Refusal>
+    ensures { PlanOpenGives pool.now generation (outcome result) }
 {
-    if !plan::is_known(generation) {
-        return Planned::fence(Planned::refused(1), generation);
-    }
-    Planned::fence(plan_any(pool), generation)
+    let generation = Generation::try_from(generation)?;
+    Ok(plan_any(pool)?.fenced(generation))
 }
 
 // Mends node j if it is stale; how many headers were rewritten.
-fn mend_node(pool: &mut [u64], n: usize, map: &[u8], j: usize) -> usize
-    requires { Sized pool.old n × (length map.now ≡ bytes_of n) × (j + 1 < n) }
-    ensures { mends pool.new result ≡ mend_node n map.now j (mends pool.old 0) }
+fn mend_node(pool: &mut [u64], map: &Map, j: usize) -> usize
+    requires { Sized pool.old map.now.n × (j + 1 < map.now.n) }
+    ensures { mends pool.new result ≡ mend_node map.now.n map.now.bytes.now j (mends pool.old 0) }
 {
-    if !is_stale(pool, n, map, j) {
-        return 0;
-    }
-    let Fresh::Header(word) = fresh_header(pool, n, marked_depth(map, n, j), j) else {
+    let before = Pool {
+        words: &*pool,
+        n: map.n,
+    };
+    let Some(w) = stale_depth(&before, map, j) else {
         return 0;
     };
-    let words = [pool::node_word(n, j)];
-    let values = [word];
-    plan::make(pool, &words, &values, 1)
+    let plan = mend_plan(&before, w, j);
+    plan::run(pool, plan, 1)
 }
 
 // Mends every stale header, lower-numbered nodes first, one store each.
-fn mend(pool: &mut [u64], n: usize, map: &[u8]) -> usize
-    requires { Sized pool.old n × (length map.now ≡ bytes_of n) }
-    ensures { mends pool.new result ≡ mended n map.now (n - 1) pool.old }
+#[tactic(auto, unfolding(digits::specs::Loops::upto))]
+fn mend(pool: &mut [u64], map: &Map) -> usize
+    requires { Sized pool.old map.now.n }
+    ensures { mends pool.new result ≡ mended map.now.n map.now.bytes.now (map.now.n - 1) pool.old }
 {
     let mut headers: usize = 0;
-    let mut j: usize = 0;
-    while j + 1 < n {
-        headers += mend_node(pool, n, map, j);
-        j += 1;
+    for j in 0..map.n - 1 {
+        headers += mend_node(pool, map, j);
     }
     headers
 }
 
-// A mark as a byte of the map: 1 if the slot is reached.
-fn flat(mark: u8) -> u8
-    ensures { result ≡ reached mark }
-{
-    if mark == 0 { 0 } else { 1 }
-}
-
-// Every mark becomes 1.
+// Each mark becomes a byte of the map: 1 if the slot is reached.
 fn flatten(map: &mut [u8])
     ensures { map.new ≡ mapped reached map.old }
 {
-    let mut i: usize = 0;
-    while i < map.len() {
-        map[i] = flat(map[i]);
-        i += 1;
+    for mark in map.iter_mut() {
+        *mark = u8::from(*mark != 0);
     }
 }
 
-// How many of the first n slots are reached, in a map of bytes 0 and 1.
-fn keys(map: &[u8], n: usize) -> usize
-    requires { (n ≤ length map.now) × ((i : ℕ) → get_or map.now i 0 ≤ 1) }
-    ensures { result ≡ keys_of n map.now }
+// How many leaves are reached.
+fn keys(map: &Map) -> usize
+    ensures { result ≡ keys_of map.now.n map.now.bytes.now }
 {
-    let mut count: usize = 0;
-    let mut i: usize = 0;
-    while i < n {
-        count += map[i] as usize;
-        i += 1;
+    let mut count = 0;
+    for mark in &map.bytes[..map.n] {
+        count += usize::from(*mark != 0); // no branch: so it is compiled to wide compares, which a filter's count is not
     }
     count
-}
-
-// A refusal.
-fn refused(number: u64) -> Opened
-    ensures { result ≡ opened number 0 0 }
-{
-    Opened {
-        number,
-        keys: 0,
-        headers: 0,
-    }
 }
 
 // A sound pool's stale headers are mended, and the marks in its map become 1.
 fn restore(pool: &mut [u64], n: usize, map: &mut [u8]) -> Opened
     requires { Sized pool.old n × (length map.old ≡ bytes_of n) }
-    ensures { left result pool.new map.new ≡ restored n map.old pool.old }
+    ensures { left (told (Ok result)) pool.new map.new ≡ restored n map.old pool.old }
 {
-    let headers = mend(pool, n, map);
+    let marks = Map { bytes: &*map, n };
+    let headers = mend(pool, &marks);
+    let keys = keys(&marks);
     flatten(map);
-    Opened {
-        number: 0,
-        keys: keys(map, n),
-        headers,
-    }
+    Opened { keys, headers }
 }
 
 // Judges a pool of n leaves, and restores it and its map where it is sound.
-fn open_sized(pool: &mut [u64], n: usize, map: &mut [u8]) -> Opened
+fn open_sized(pool: &mut [u64], n: usize, map: &mut [u8]) -> Result<Opened, Refusal>
     requires { Sized pool.old n × (length map.old ≡ bytes_of n) }
-    ensures { left result pool.new map.new ≡ left_judged pool.old map.old n (survey_of pool.old n) }
+    ensures { left (told result) pool.new map.new ≡ left_judged pool.old map.old n (survey_of pool.old n) }
 {
-    finishing::clear(map);
-    if !survey::survey(pool, n, map) {
-        finishing::clear(map);
-        return refused(2);
+    map.fill(0);
+    if !survey::survey(&Pool { words: pool, n }, map) {
+        map.fill(0);
+        return Err(Refusal::Damage);
     }
-    restore(pool, n, map)
+    Ok(restore(pool, n, map))
 }
 
 // Judges the whole pool, mends its stale headers and rebuilds its map.
-pub fn open(pool: &mut [u64], map: &mut [u8]) -> Opened
-    ensures { OpenGives pool.old map.old (left result pool.new map.new) }
+#[tactic(auto, unfolding(crate::specs::Openings::open_of))]
+pub fn open(pool: &mut [u64], map: &mut [u8]) -> Result<Opened, Refusal>
+    ensures { OpenGives pool.old map.old (left (told result) pool.new map.new) }
 {
-    let Size::Holds(n) = pool::capacity(pool) else {
-        return refused(1);
-    };
+    let n = pool::capacity(pool).ok_or(Refusal::Size)?;
     if map.len() != 2 * n - 1 {
-        return refused(1);
+        return Err(Refusal::Size);
     }
     open_sized(pool, n, map)
 }

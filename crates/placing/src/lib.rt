@@ -2,126 +2,125 @@
 #![tactic(auto)]
 
 ghost use Rattle.std.specs.Prelude.{◌≡◌, ◌<◌, ◌≤◌, length};
-ghost use Rattle.pool.specs.Sizes.{Sized};
 ghost use Rattle.walk.specs.Walks.{walk_of};
 ghost use Rattle.rules.specs.Puts.{cleft_at, beside_of, leaf_put, empty_put, put_at, put_file};
 ghost use Rattle.placing.specs.Leads.{Leads, Suits};
 
 use digits::Header;
+use pool::Pool;
+use refusals::Refusal;
 use rules::{Cleft, Target};
-use walk::{End, Lowest, Spot};
+use walk::{End, Spot};
 
 // The cleft at a spot of the walk.
-fn cleft(pool: &[u64], s: Spot, near: u64, diff: usize) -> Cleft
-    requires { s.at < length pool.now }
-    ensures { result ≡ cleft_at pool.now near diff s }
+fn cleft(pool: &Pool, s: Spot, near: u64, diff: usize) -> Cleft
+    requires { s.at < length pool.now.words.now }
+    ensures { result ≡ cleft_at pool.now.words.now near diff s }
 {
     let at = s.at;
     Cleft {
         at,
         depth: s.depth,
-        old: pool[at],
+        old: pool.words[at],
         near,
         diff,
     }
 }
 
-// Where a put goes: leaf i, which holds the key; an empty reference; a reference that is split; or nowhere, with a number.
+// Where a put goes: leaf i, which holds the key; an empty reference; or a reference that is split.
 #[derive(Clone, Copy)]
 pub enum Place {
     Held(usize),
     Gap(usize),
     Apart(Cleft, Target),
-    Refused(u64),
 }
 
 // The place beside another key, `near`: at the first node of the walk that branches at or past the first digit in which they differ. Where the
 // walk ended at an empty child, `last` is the number of nodes that it passed and `gap` the word of that child, else last is 0.
-fn beside(pool: &[u64], n: usize, key: u64, last: usize, gap: usize, near: u64) -> Place
-    requires { Sized pool.now n }
-    ensures { Leads n key result (λ map v. beside_of pool.now map n key v last gap near) }
+fn beside(pool: &Pool, key: u64, last: usize, gap: usize, near: u64) -> Result<Place, Refusal>
+    ensures { Leads pool.now.n key result (λ map v. beside_of pool.now.words.now map pool.now.n key v last gap near) }
 {
     let f = digits::first_diff(key, near);
     if f == Header::DIGITS {
-        return Place::Refused(2);
+        return Err(Refusal::Damage);
     }
-    let end = walk::walk_to(pool, n, key, f);
+    let end = walk::walk_to(pool, key, f);
     if let End::AtLeaf(s, _) = end {
-        return Place::Apart(cleft(pool, s, near, f), Target::ALeaf);
+        return Ok(Place::Apart(cleft(pool, s, near, f), Target::ALeaf));
     }
     let End::Stopped(s, j, b) = end else {
-        return Place::Refused(2);
+        return Err(Refusal::Damage);
     };
     if b != f {
-        return Place::Apart(cleft(pool, s, near, f), Target::ANode(j, b));
+        return Ok(Place::Apart(cleft(pool, s, near, f), Target::ANode(j, b)));
     }
     if s.nodes + 1 != last {
-        return Place::Refused(2);
+        return Err(Refusal::Damage);
     }
-    Place::Gap(gap)
+    Ok(Place::Gap(gap))
 }
 
 // The walk ended at leaf i.
-fn beside_leaf(pool: &[u64], n: usize, key: u64, s: Spot, i: usize) -> Place
-    requires { Sized pool.now n × (walk_of pool.now n key ≡ End.AtLeaf s i) × (i < n) × (s.at < length pool.now) }
-    ensures { Leads n key result (λ map v. leaf_put pool.now map n key v i) }
+#[inline(always)]
+fn beside_leaf(pool: &Pool, key: u64, s: Spot, i: usize) -> Result<Place, Refusal>
+    requires { (walk_of pool.now.words.now pool.now.n key ≡ End.AtLeaf s i) × (i < pool.now.n) × (s.at < length pool.now.words.now) }
+    ensures { Leads pool.now.n key result (λ map v. leaf_put pool.now.words.now map pool.now.n key v i) }
 {
-    let near = pool::leaf_key(pool, n, i);
+    let near = pool.leaf_key(i);
     if near == key {
-        return Place::Held(i);
+        return Ok(Place::Held(i));
     }
     let f = digits::first_diff(key, near);
     if f == Header::DIGITS {
-        return Place::Refused(2);
+        return Err(Refusal::Damage);
     }
     // Every node of the walk branches before f: no second walk need find the leaf again.
     if s.depth <= f {
-        return Place::Apart(cleft(pool, s, near, f), Target::ALeaf);
+        return Ok(Place::Apart(cleft(pool, s, near, f), Target::ALeaf));
     }
-    beside(pool, n, key, 0, 0, near)
+    beside(pool, key, 0, 0, near)
 }
 
 // The walk ended at an empty reference.
-fn beside_empty(pool: &[u64], n: usize, key: u64, s: Spot) -> Place
-    requires { Sized pool.now n × (walk_of pool.now n key ≡ End.AtEmpty s) × (s.over < length pool.now) × (s.above ≤ 16) × (s.depth ≤ 16) }
-    ensures { Leads n key result (λ map v. empty_put pool.now map n key v s) }
+#[inline(always)]
+fn beside_empty(pool: &Pool, key: u64, s: Spot) -> Result<Place, Refusal>
+    requires { (walk_of pool.now.words.now pool.now.n key ≡ End.AtEmpty s) × (s.over < length pool.now.words.now) × (s.above ≤ 16) × (s.depth ≤ 16) }
+    ensures { Leads pool.now.n key result (λ map v. empty_put pool.now.words.now map pool.now.n key v s) }
 {
     if s.nodes == 0 {
-        return Place::Gap(s.at);
+        return Ok(Place::Gap(s.at));
     }
     let over = s.over;
-    let Lowest::Key(near) = walk::lowest_leaf(pool, n, s.above, over, pool[over]) else {
-        return Place::Refused(2);
-    };
+    let near = walk::lowest_leaf(pool, s.above, over, pool.words[over])?;
     // The last node branches where the keys part: no second walk need find it.
     if digits::first_diff(key, near) + 1 == s.depth {
-        return Place::Gap(s.at);
+        return Ok(Place::Gap(s.at));
     }
-    beside(pool, n, key, s.nodes, s.at, near)
+    beside(pool, key, s.nodes, s.at, near)
 }
 
 // Where a key goes. Every question of damage is settled here, before room is looked for.
-fn place_key(pool: &[u64], n: usize, key: u64) -> Place
-    requires { Sized pool.now n }
-    ensures { Leads n key result (λ map v. put_at pool.now map n key v (walk_of pool.now n key)) }
+#[inline(always)]
+fn place_key(pool: &Pool, key: u64) -> Result<Place, Refusal>
+    ensures { Leads pool.now.n key result (λ map v. put_at pool.now.words.now map pool.now.n key v (walk_of pool.now.words.now pool.now.n key)) }
 {
-    let end = walk::walk(pool, n, key);
+    let end = walk::walk(pool, key);
     if let End::AtLeaf(s, i) = end {
-        return beside_leaf(pool, n, key, s, i);
+        return beside_leaf(pool, key, s, i);
     }
     let End::AtEmpty(s) = end else {
-        return Place::Refused(2);
+        return Err(Refusal::Damage);
     };
-    beside_empty(pool, n, key, s)
+    beside_empty(pool, key, s)
 }
 
 // Where a put goes. File number 0 is retired: such a put is refused, whatever the pool holds.
-pub fn find_place(pool: &[u64], n: usize, key: u64, value: u64) -> Place
-    requires { Sized pool.now n }
-    ensures { Suits n key value result (λ map. put_file pool.now map n key value) }
+#[inline(always)]
+pub fn find_place(pool: &Pool, key: u64, value: u64) -> Result<Place, Refusal>
+    ensures { Suits pool.now.n key value result (λ map. put_file pool.now.words.now map pool.now.n key value) }
 {
     if value == 0 {
-        return Place::Refused(7);
+        return Err(Refusal::Retired);
     }
-    place_key(pool, n, key)
+    place_key(pool, key)
 }

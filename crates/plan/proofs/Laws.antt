@@ -2,25 +2,33 @@
 -- Assumes nothing.
 use mathlib.Core.Path.{◌≡◌, refl, sym, ap, ◌∙◌}
 use mathlib.Core.Logic.{◌≢◌, ◌⊎◌, inl, inr, ⊎_elim}
-use mathlib.Core.Bool.{Bool, true, false, not}
+use mathlib.Core.Bool.{Bool, true, false}
 use mathlib.Core.List.{List, [], ◌∷◌, ◌++◌, map}
 use Prim.Native.Nat.{ℕ, zero, suc, ◌+◌, ◌-◌, ◌≤◌, ◌<◌, min}
-use native.Mathlib.Nat.{zero-add, add-zero, sub-zero, le_of_suc-le-suc, not-suc-le-zero}
+use native.Mathlib.Nat.{zero-add, add-zero, le_of_suc-le-suc, not-suc-le-zero}
 use native.Mathlib.Numerals.{add-one}
 use native.Mathlib.Omega.{arith}
 use borrow.Author.Tests.{lt-ltb, le-ltb, le-leb, lt-leb}
 use lib.Dec.{eqb, ltb}
 use lib.ListN.{length, get_or, set, take, drop, replicate, length-set, length-append, length-take, length-replicate, length-map, get_or-map, get_or-eq_default}
 use lib.Seq.{lt-length-set, take_all, take-suc, take-append-add, get_or-set_same, get_or-set_other}
+use Rattle.std.proofs.lemmas.List.{take-replicate}
+use Rattle.std.specs.Prelude.{Result, Ok, Err}
+use Rattle.std.specs.Result.{is_err}
+use Rattle.refusals.specs.declared.Refusal.{Refusal}
+use Rattle.refusals.specs.declared.Refusal.TheVariants.{Size, Damage, Absent, Full, Outside, Buffers, Retired}
+use Rattle.refusals.specs.Refusals.{number_of, number_in}
 use Rattle.digits.specs.Choice.{pick}
 use Rattle.tree.specs.Tree.{upd}
 use Rattle.tree.specs.Shape.{Mem}
 use Rattle.tree.specs.Stores.{Store, run}
-use Rattle.tree.proofs.Basics.{upd_case, true_not_false}
+use Rattle.tree.proofs.Basics.{Same?, same, other, same?, upd_case}
 use Rattle.tree.proofs.Stores.{Words, words_more}
 use Rattle.plan.specs.declared.Plan.{Plan}
 use Rattle.plan.specs.declared.Effect.{Effect}
-use Rattle.plan.specs.Plans.{made, plan_of, Decided, refused, known, decided_for, After, after, store_of, step_of, stores_in, Ran, ran, one_more, makes_of, stores_of, run_of}
+use Rattle.plan.specs.declared.Generation.{Generation}
+use Rattle.plan.specs.declared.Generation.TheVariants.{Adr, Eadr}
+use Rattle.plan.specs.Plans.{made, padded, plan_of, Decided, refused, adr, eadr, generation_number, generation_of, decided_for, After, after, store_of, step_of, stores_in, Ran, ran, one_more, makes_of, stores_of, run_of}
 
 -- ---- the stores of a list
 pub made_append : (σ τ : List Store) (l : List ℕ) → made (σ ++ τ) l ≡ made τ (made σ l)
@@ -78,6 +86,13 @@ plan_places group σ e = (places (map (λ s. s.word) σ), places (map (λ s. s.v
     places : (l : List ℕ) → length (take 21 (l ++ replicate 21 0)) ≡ 21
     places l = simp (length-take, length-append) (omega (arith, length-replicate {A = ℕ} 21 0))
 
+-- what is laid out, and then places that are 0
+pub padded_laid : (f : Store → ℕ) (σ : List Store) → length σ ≤ 21 → padded (map f σ) ≡ map f σ ++ replicate (21 - length σ) 0
+padded_laid f σ few =
+    let n : length (map f σ) + (21 - length σ) ≡ 21 = omega (arith, length-map σ f) in
+    let t : take (21 - length σ) (replicate 21 0) ≡ replicate (21 - length σ) 0 = take-replicate (21 - length σ) 21 0 (omega arith) in
+    rw n at (take-append-add (map f σ) (replicate 21 0) (21 - length σ)) ∙ ap (λ (l : List ℕ). map f σ ++ l) t
+
 -- what the word of every store has, the word of store i has
 pub words_at : (P : ℕ → Type 0) (σ : List Store) (i : ℕ) → i < length σ → Words P σ → P (get_or σ i unused).word
 unfolding Words
@@ -107,6 +122,25 @@ pub stores_first : (σ : List Store) (ws vs : List ℕ)
 unfolding stores_in
 stores_first [] ws vs = refl
 stores_first (s ∷ σ) ws vs = ap (λ (τ : List Store). s ∷ τ) (stores_first σ ws vs)
+
+-- ---- answers
+-- 0 where it is no refusal, and never where it is one
+pub number_done : {A : Type 0} (r : Result A Refusal) → is_err r ≡ false → number_in r ≡ 0
+number_done (Ok a) e = refl
+number_done (Err r) e = cc
+
+number_above : (r : Refusal) → 0 < number_of r
+number_above Size = omega arith
+number_above Damage = omega arith
+number_above Absent = omega arith
+number_above Full = omega arith
+number_above Outside = omega arith
+number_above Buffers = omega arith
+number_above Retired = omega arith
+
+pub number_refused : {A : Type 0} (r : Result A Refusal) → is_err r ≡ true → number_in r ≢ 0
+number_refused (Ok a) e = cc
+number_refused (Err r) e = λ z. let h = number_above r in omega arith
 
 -- ---- stores one after the other
 -- a store is made, or refused and leaves the words as they were
@@ -160,43 +194,40 @@ makes_take (suc n) (suc k) (s ∷ σ) l =
     go false e = refl
 
 -- ---- the loop's turns
--- what is left to do from store i of two lists on, where i were made before
+-- what is left to do of two lists as stores, where k were made before: n of them
 abbrev pub makes_from : ℕ → ℕ → List ℕ → List ℕ → List ℕ → Ran
-makes_from n i ws vs l = let r : Ran = makes_of (n - i) (drop i (stores_in ws vs)) l in ran (i + r.steps) r.left
+makes_from k n ws vs l = let r : Ran = makes_of n (stores_in ws vs) l in ran (k + r.steps) r.left
 
-pub makes_begun : (n : ℕ) (ws vs l : List ℕ) → makes_from n 0 ws vs l ≡ makes_of n (stores_in ws vs) l
-makes_begun n ws vs l = let r : Ran = makes_of n (stores_in ws vs) l in rw sub-zero (ap (λ (k : ℕ). ran k r.left) (zero-add r.steps))
+pub makes_begun : (n : ℕ) (ws vs l : List ℕ) → makes_from 0 n ws vs l ≡ makes_of n (stores_in ws vs) l
+makes_begun n ws vs l = let r : Ran = makes_of n (stores_in ws vs) l in ap (λ (k : ℕ). ran k r.left) (zero-add r.steps)
 
-module _ (ws vs : List ℕ) (n i : ℕ) (l : List ℕ) where
-  -- nothing is left
-  pub makes_none : n ≤ i → makes_from n i ws vs l ≡ ran i l
-  unfolding makes_of
-  makes_none h =
-      let e : n - i ≡ 0 = omega arith in
-      let z : i + 0 ≡ i = omega arith in
-      rw (e, z)
+-- nothing is left
+pub makes_none : (k n : ℕ) (ws vs l : List ℕ) → (0 < n → (length ws ≡ 0) ⊎ (length vs ≡ 0)) → makes_from k n ws vs l ≡ ran k l
+unfolding makes_of stores_in
+makes_none k zero ws vs l h = ap (λ (j : ℕ). ran j l) (add-zero k)
+makes_none k (suc n) [] vs l h = ap (λ (j : ℕ). ran j l) (add-zero k)
+makes_none k (suc n) (w ∷ ws) [] l h = ap (λ (j : ℕ). ran j l) (add-zero k)
+makes_none k (suc n) (w ∷ ws) (v ∷ vs) l h = absurd (⊎_elim (λ e. omega (arith, e)) (λ e. omega (arith, e)) (h (omega arith)))
 
-  module _ (h : i < n) (words : n ≤ length ws) (values : n ≤ length vs) {k : ℕ} {m : List ℕ} (gave : after k m ≡ store_of (get_or ws i 0) (get_or vs i 0) l) where
-    turned : {a : After} → store_of (get_or ws i 0) (get_or vs i 0) l ≡ a
-        → makes_from n i ws vs l ≡ let r : Ran = gone_on (n - (i + 1)) (drop (i + 1) (stores_in ws vs)) l a in ran (i + r.steps) r.left
-    turned e =
-        let d : n - i ≡ suc (n - (i + 1)) = omega arith in
-        rw (d, stores_drop ws vs i (omega arith) (omega arith), ← add-one i)
-        (ap (λ (r : Ran). ran (i + r.steps) r.left)
-        (makes_suc (n - (i + 1)) (record { word = get_or ws i 0; value = get_or vs i 0 }) (drop (i + 1) (stores_in ws vs)) l e))
+module _ (k n' : ℕ) (l : List ℕ) {n w v j : ℕ} {ws vs ws' vs' m : List ℕ} (words : ws ≡ w ∷ ws') (values : vs ≡ v ∷ vs') (fewer : n' + 1 ≡ n) (gave : after j m ≡ store_of w v l) where
+  turned : {a : After} → store_of w v l ≡ a → makes_from k n ws vs l ≡ let r : Ran = gone_on n' (stores_in ws' vs') l a in ran (k + r.steps) r.left
+  unfolding stores_in
+  turned e =
+      rw (words, values, ← fewer, add-one n')
+      (ap (λ (r : Ran). ran (k + r.steps) r.left) (makes_suc n' (record { word = w; value = v }) (stores_in ws' vs') l e))
 
-    -- a store that was made leaves those after it
-    pub makes_next : k ≡ 0 → makes_from n i ws vs l ≡ makes_from n (i + 1) ws vs m
-    makes_next z =
-        let r : Ran = makes_of (n - (i + 1)) (drop (i + 1) (stores_in ws vs)) m in
-        let o : i + (r.steps + 1) ≡ i + 1 + r.steps = omega arith in
-        turned (sym gave ∙ ap (λ (k : ℕ). after k m) z) ∙ ap (λ (k : ℕ). ran k r.left) o
+  -- a store that was made leaves those after it
+  pub makes_next : j ≡ 0 → makes_from k n ws vs l ≡ makes_from (k + 1) n' ws' vs' m
+  makes_next z =
+      let r : Ran = makes_of n' (stores_in ws' vs') m in
+      let o : k + (r.steps + 1) ≡ k + 1 + r.steps = omega arith in
+      turned (sym gave ∙ ap (λ (j : ℕ). after j m) z) ∙ ap (λ (j : ℕ). ran j r.left) o
 
-    -- a refused store is the last
-    pub makes_end : k ≢ 0 → makes_from n i ws vs l ≡ ran i m
-    makes_end z =
-        ⊎_elim (λ s. absurd (z (ap (λ (x : After). x.number) (gave ∙ s))))
-        (λ s. turned s ∙ rw (add-zero i) (ap (λ (x : After). ran i x.left) (sym (gave ∙ s)))) (store_either (get_or ws i 0) (get_or vs i 0) l)
+  -- a refused store is the last
+  pub makes_end : j ≢ 0 → makes_from k n ws vs l ≡ ran k m
+  makes_end z =
+      ⊎_elim (λ s. absurd (z (ap (λ (x : After). x.number) (gave ∙ s))))
+      (λ s. turned s ∙ rw (add-zero k) (ap (λ (x : After). ran k x.left) (sym (gave ∙ s)))) (store_either w v l)
 
 -- ---- a step and a run of a plan of at most 21 stores
 module _ (group : ℕ → ℕ) (σ : List Store) (e : Effect) (few : length σ ≤ 21) where
@@ -246,13 +277,8 @@ module _ (group : ℕ → ℕ) (σ : List Store) (e : Effect) (few : length σ �
   -- its steps make its stores
   pub plan_stores : stores_of (plan_of group σ e) ≡ σ
   plan_stores =
-      rw (le-ltb 21 (length σ) few, places (λ s. s.word), places (λ s. s.value))
-      (stores_first σ (take (21 - length σ) (replicate 21 0)) (take (21 - length σ) (replicate 21 0)))
-    where
-      places : (f : Store → ℕ) → take 21 (map f σ ++ replicate 21 0) ≡ map f σ ++ take (21 - length σ) (replicate 21 0)
-      places f =
-          let n : length (map f σ) + (21 - length σ) ≡ 21 = omega (arith, length-map σ f) in
-          rw n at (take-append-add (map f σ) (replicate 21 0) (21 - length σ))
+      rw (le-ltb 21 (length σ) few, padded_laid (λ s. s.word) σ few, padded_laid (λ s. s.value) σ few)
+      (stores_first σ (replicate (21 - length σ) 0) (replicate (21 - length σ) 0))
 
   module _ (pool : List ℕ) (inside : Words (λ w. w < length pool) σ) where
     -- a run makes the stores in their order, and says how many
@@ -279,10 +305,18 @@ module _ (p : Plan) (most : ℕ) (pool : List ℕ) where
 -- ---- generations
 -- 1 before all else where there is no such generation; else what is decided stays
 module _ (g : ℕ) (d : Decided) where
-  pub unknown_refuses : (r : Bool) → r ≡ known g → not r ≡ true → refused 1 ≡ decided_for g d
-  unknown_refuses true e n = absurd (true_not_false n refl)
-  unknown_refuses false e n = rw (← e)
+  pub unknown_refuses : {r : Refusal} → Err r ≡ generation_of g → refused (number_of r) ≡ decided_for g d
+  unknown_refuses {r} = go (same? g adr) (same? g eadr)
+    where
+      go : Same? g adr → Same? g eadr → Err r ≡ generation_of g → refused (number_of r) ≡ decided_for g d
+      go (same p q) t = rw q (λ e. cc)
+      go (other n q) (same p t) = rw (q, t) (λ e. cc)
+      go (other n q) (other m t) = rw (q, t) (λ e. let f : r ≡ Size = cc in rw f)
 
-  pub known_keeps : (r : Bool) → r ≡ known g → not r ≡ false → d ≡ decided_for g d
-  known_keeps true e n = rw (← e)
-  known_keeps false e n = absurd (true_not_false refl n)
+  pub known_keeps : {x : Generation} → Ok x ≡ generation_of g → (d ≡ decided_for g d) × (generation_number x ≡ g)
+  known_keeps {x} = go (same? g adr) (same? g eadr)
+    where
+      go : Same? g adr → Same? g eadr → Ok x ≡ generation_of g → (d ≡ decided_for g d) × (generation_number x ≡ g)
+      go (same p q) t = rw q (λ e. let f : x ≡ Adr = cc in (refl, rw f (sym p)))
+      go (other n q) (same p t) = rw (q, t) (λ e. let f : x ≡ Eadr = cc in (refl, rw f (sym p)))
+      go (other n q) (other m t) = rw (q, t) (λ e. cc)

@@ -1,10 +1,14 @@
 -- Plans: their stores in order, one step, and a run of steps.
 -- Assumes nothing.
-use Rattle.std.specs.Prelude.{◌≡◌, Bool, true, false, List, [], ◌∷◌, ◌++◌, map, ℕ, zero, suc, ◌+◌, ◌-◌, eqb, leb, ltb, length, get_or, set, take, replicate}
+use Rattle.std.specs.Prelude.{◌≡◌, Bool, true, false, Result, Ok, Err, List, [], ◌∷◌, ◌++◌, map, ℕ, zero, suc, ◌+◌, ◌-◌, eqb, leb, ltb, length, get_or, set, take, replicate}
 use Rattle.digits.specs.Choice.{pick}
 use Rattle.tree.specs.Stores.{Store}
+use Rattle.refusals.specs.declared.Refusal.{Refusal}
+use Rattle.refusals.specs.declared.Refusal.TheVariants.{Size}
+use Rattle.refusals.specs.Refusals.{number_of}
 use Rattle.plan.specs.declared.Plan.{Plan}
-use Rattle.plan.specs.declared.Planned.{Planned}
+use Rattle.plan.specs.declared.Generation.{Generation}
+use Rattle.plan.specs.declared.Generation.TheVariants.{Adr, Eadr}
 use Rattle.plan.specs.declared.Effect.{Effect}
 use Rattle.plan.specs.declared.Effect.TheVariants.{Nothing}
 
@@ -53,6 +57,11 @@ decided σ e = record { number = 0; stores = σ; effect = e }
 abbrev pub refused : ℕ → Decided
 refused k = record { number = k; stores = []; effect = Nothing }
 
+-- what a planning call gives back: the number, and the plan
+pub record Planned : Type 0 where
+  pub number : ℕ
+  pub plan : Plan
+
 abbrev pub planned_of : (ℕ → ℕ) → Decided → Planned
 planned_of group d = record { number = d.number; plan = plan_of group d.stores d.effect }
 
@@ -66,6 +75,15 @@ eadr = 2
 abbrev pub known : ℕ → Bool
 known generation = pick (eqb generation adr) true (eqb generation eadr)
 
+-- the generations of the code, by their numbers
+abbrev pub generation_number : Generation → ℕ
+generation_number Adr = adr
+generation_number Eadr = eadr
+
+-- the generation of a number; "any other generation is 1"
+abbrev pub generation_of : ℕ → Result Generation Refusal
+generation_of number = pick (eqb number adr) (Ok Adr) (pick (eqb number eadr) (Ok Eadr) (Err Size))
+
 -- "An ADR plan has a fence after each group, an eADR plan none, and the plan reports the number."
 abbrev pub groups_of : ℕ → ℕ → ℕ
 groups_of first count = pick (eqb count 0) 0 (pick (ltb first count) 2 1)
@@ -73,18 +91,18 @@ groups_of first count = pick (eqb count 0) 0 (pick (ltb first count) 2 1)
 abbrev pub fences_of : ℕ → ℕ → ℕ → ℕ
 fences_of generation first count = pick (eqb generation adr) (groups_of first count) 0
 
-abbrev pub fenced : ℕ → Planned → Planned
-fenced generation p = record {
-  number = p.number;
-  plan = record {
-    words = p.plan.words;
-    values = p.plan.values;
-    count = p.plan.count;
-    first = p.plan.first;
-    fences = fences_of generation p.plan.first p.plan.count;
-    effect = p.plan.effect;
-  };
+abbrev pub fenced_plan : ℕ → Plan → Plan
+fenced_plan generation p = record {
+  words = p.words;
+  values = p.values;
+  count = p.count;
+  first = p.first;
+  fences = fences_of generation p.first p.count;
+  effect = p.effect;
 }
+
+abbrev pub fenced : ℕ → Planned → Planned
+fenced generation p = record { number = p.number; plan = fenced_plan generation p.plan }
 
 -- "Planning takes the generation." "any other generation is 1, before all else"
 abbrev pub decided_for : ℕ → Decided → Decided
@@ -92,6 +110,11 @@ decided_for generation d = pick (known generation) d (refused 1)
 
 abbrev pub planned_for : ℕ → (ℕ → ℕ) → Decided → Planned
 planned_for generation group d = fenced generation (planned_of group (decided_for generation d))
+
+-- what an answer of the code comes to: the plan, or the refusal's number and a plan that does nothing
+abbrev pub outcome : Result Plan Refusal → Planned
+outcome (Ok p) = record { number = 0; plan = p }
+outcome (Err r) = planned_of one_group (refused (number_of r))
 
 -- the number given back, and the words or bytes after the call
 pub record After : Type 0 where

@@ -1,11 +1,18 @@
 // Plans: at most 21 stores in order, each made by one step, and what they do to the map; and the one loop that makes stores.
 #![tactic(auto)]
 
-ghost use Rattle.std.specs.Prelude.{◌≡◌, [], ◌∷◌, ◌≤◌, min, length};
-ghost use Rattle.plan.specs.Plans.{all_but_last, the_switch, one_group, known, fences_of, fenced, plan_of, refused, planned_of, after, store_of, step_of, StepGives, ran, stores_in, makes_of, RunGives};
+ghost use Rattle.std.specs.Prelude.{◌≡◌, [], ◌∷◌};
+ghost use Rattle.refusals.specs.Refusals.{number_in};
+ghost use Rattle.plan.specs.Plans.{all_but_last, the_switch, one_group, generation_number, generation_of, fences_of, fenced_plan, plan_of, after, store_of, StepGives, ran, stores_in, makes_of, RunGives};
+
+use refusals::Refusal;
+
+mod laid;
+
+pub use laid::Stores;
 
 // What a plan does to the map. Slots are named by their byte number in the map.
-#[derive(Clone, Copy)]
+#[derive(Clone, Copy, Debug, PartialEq, Eq)]
 pub enum Effect {
     Nothing,
     TakesLeaf(usize),
@@ -15,37 +22,39 @@ pub enum Effect {
 }
 
 // The platform generations: older machines let stores arrive in any order between two fences, newer ones in list order.
-pub const ADR: u64 = 1;
+#[derive(Clone, Copy, Debug, PartialEq, Eq)]
+pub enum Generation {
+    Adr = 1,
+    Eadr = 2,
+}
 
-pub const EADR: u64 = 2;
+// A generation by its number, as C gives it; there is no other.
+impl TryFrom<u64> for Generation {
+    type Error = Refusal;
 
-// Whether there is such a generation.
-pub fn is_known(generation: u64) -> bool
-    ensures { result ≡ known generation }
-{
-    if generation == ADR {
-        return true;
+    ghost try_from_gives = { λ number g. g ≡ generation_of number };
+
+    fn try_from(number: u64) -> Result<Generation, Refusal>
+        ensures { result ≡ generation_of number }
+    {
+        match number {
+            1 => Ok(Generation::Adr),
+            2 => Ok(Generation::Eadr),
+            _ => Err(Refusal::Size),
+        }
     }
-    generation == EADR
 }
 
 // At most 21 stores, each a word number and a value; unused places are 0. They are in groups, `first` of them in the first and the others, if
 // there are any, in the second; `fences` is how many fences the caller makes, one after each group or none. A step reads neither.
 #[derive(Clone, Copy)]
 pub struct Plan {
-    pub words: [usize; 21],
-    pub values: [u64; 21],
+    pub words: [usize; Plan::MOST],
+    pub values: [u64; Plan::MOST],
     pub count: usize,
     pub first: usize,
     pub fences: usize,
     pub effect: Effect,
-}
-
-// What a planning call answers: document 01's number, and the plan.
-#[derive(Clone, Copy)]
-pub struct Planned {
-    pub number: u64,
-    pub plan: Plan,
 }
 
 impl Plan {
@@ -67,16 +76,15 @@ impl Plan {
     }
 
     // The fences of a plan of so many stores, of which so many are the first group: one after each group on ADR, none on eADR.
-    pub fn fences(generation: u64, first: usize, count: usize) -> usize
-        ensures { result ≡ fences_of generation first count }
+    pub fn fences(generation: Generation, first: usize, count: usize) -> usize
+        ensures { result ≡ fences_of (generation_number generation) first count }
     {
-        if generation != ADR {
-            return 0;
+        match generation {
+            Generation::Eadr => 0,
+            Generation::Adr if count == 0 => 0,
+            Generation::Adr if first < count => 2,
+            Generation::Adr => 1,
         }
-        if count == 0 {
-            return 0;
-        }
-        if first < count { 2 } else { 1 }
     }
 
     // A plan of no stores, and so of no group, with this effect.
@@ -84,8 +92,8 @@ impl Plan {
         ensures { result ≡ plan_of one_group [] effect }
     {
         Plan {
-            words: [0; 21],
-            values: [0; 21],
+            words: [0; Plan::MOST],
+            values: [0; Plan::MOST],
             count: 0,
             first: 0,
             fences: 0,
@@ -97,114 +105,68 @@ impl Plan {
     pub fn one(word: usize, value: u64, effect: Effect) -> Plan
         ensures { result ≡ plan_of one_group (record { word = word; value = value } ∷ []) effect }
     {
-        let mut words = [0usize; 21];
-        let mut values = [0u64; 21];
-        words[0] = word;
-        values[0] = value;
-        Plan {
-            words,
-            values,
-            count: 1,
-            first: 1,
-            fences: 0,
-            effect,
-        }
+        let mut plan = Plan::none(effect);
+        plan.words[0] = word;
+        plan.values[0] = value;
+        plan.count = 1;
+        plan.first = 1;
+        plan
     }
-}
 
-impl Planned {
     // The same, with the fences of a generation.
-    pub fn fence(planned: Planned, generation: u64) -> Planned
-        ensures { result ≡ fenced generation planned }
+    pub fn fenced(self, generation: Generation) -> Plan
+        ensures { result ≡ fenced_plan (generation_number generation) self }
     {
-        let number = planned.number;
-        let bare = planned.plan;
-        let first = bare.first;
-        let count = bare.count;
-        let effect = bare.effect;
-        let words = bare.words;
-        let values = bare.values;
-        Planned {
-            number,
-            plan: Plan {
-                words,
-                values,
-                count,
-                first,
-                fences: Plan::fences(generation, first, count),
-                effect,
-            },
-        }
-    }
-
-    // A refusal, with a plan that does nothing.
-    pub fn refused(number: u64) -> Planned
-        ensures { result ≡ planned_of one_group (refused number) }
-    {
-        Planned {
-            number,
-            plan: Plan::none(Effect::Nothing),
+        Plan {
+            fences: Plan::fences(generation, self.first, self.count),
+            ..self
         }
     }
 }
 
-// The single store, to any word: 5 where the pool has none such. Nothing else but format writes a pool's word.
-fn store(pool: &mut [u64], word: usize, value: u64) -> u64
-    ensures { after result pool.new ≡ store_of word value pool.old }
+// The single store, to any word of the pool. Nothing else but format writes a pool's word.
+fn store(pool: &mut [u64], word: usize, value: u64) -> Result<(), Refusal>
+    ensures { after (number_in result) pool.new ≡ store_of word value pool.old }
 {
     if pool.len() <= word {
-        return 5;
+        return Err(Refusal::Outside);
     }
     pool[word] = value;
-    0
+    Ok(())
 }
 
 // One step makes one store.
-pub fn step(pool: &mut [u64], plan: Plan, at: usize) -> u64
-    ensures { StepGives plan at pool.old (after result pool.new) }
+#[tactic(auto, unfolding(crate::specs::Plans::step_of))]
+pub fn step(pool: &mut [u64], plan: Plan, at: usize) -> Result<(), Refusal>
+    ensures { StepGives plan at pool.old (after (number_in result) pool.new) }
 {
-    let words = plan.words;
-    let values = plan.values;
-    let count = plan.count;
-    if Plan::MOST < count {
-        return 5;
+    if Plan::MOST < plan.count || plan.count <= at {
+        return Err(Refusal::Outside);
     }
-    if count <= at {
-        return 5;
-    }
-    store(pool, words[at], values[at])
+    store(pool, plan.words[at], plan.values[at])
 }
 
-// The first stores of these two lists, so many, one after the other until one is refused; how many were made. No other loop stores to a pool.
-pub fn make<'a>(pool: &mut [u64], words: &'a [usize], values: &'a [u64], most: usize) -> usize
-    requires { (most ≤ length words.now) × (most ≤ length values.now) }
+// The first stores of these two lists, at most so many, one after the other until one is refused; how many were made. No other loop stores to a pool.
+pub fn make(pool: &mut [u64], words: &[usize], values: &[u64], most: usize) -> usize
     ensures { ran result pool.new ≡ makes_of most (stores_in words.now values.now) pool.old }
 {
-    let mut i: usize = 0;
-    while i < most {
-        if store(pool, words[i], values[i]) != 0 {
-            return i;
+    let mut made = 0;
+    for (word, value) in words.iter().zip(values).take(most) {
+        if store(pool, *word, *value).is_err() {
+            break;
         }
-        i += 1;
+        made += 1;
     }
-    i
-}
-
-// The smaller of two numbers.
-fn least(a: usize, b: usize) -> usize
-    ensures { result ≡ min a b }
-{
-    if a <= b { a } else { b }
+    made
 }
 
 // The first steps of a plan, at most so many, until one is refused; how many were made.
+#[tactic(auto, using(crate::proofs::Laws::run_over, crate::proofs::Laws::run_makes))]
 pub fn run(pool: &mut [u64], plan: Plan, most: usize) -> usize
     ensures { RunGives most plan pool.old (ran result pool.new) }
 {
-    let words = plan.words;
-    let values = plan.values;
     if Plan::MOST < plan.count {
         return 0;
     }
-    make(pool, &words, &values, least(most, plan.count))
+    make(pool, &plan.words, &plan.values, most.min(plan.count))
 }

@@ -1,6 +1,6 @@
 -- Where leaves and nodes stand in a pool of n leaves, and what a reference to them is.
 -- Assumes nothing.
-use Rattle.std.specs.Prelude.{List, ℕ, ◌+◌, ◌*◌, get_or}
+use Rattle.std.specs.Prelude.{List, ℕ, ◌+◌, ◌*◌, get_or, take, drop}
 
 abbrev pub word_at : List ℕ → ℕ → ℕ
 word_at pool i = get_or pool i 0
@@ -28,6 +28,10 @@ header_at pool n j = word_at pool (node_word n j)
 
 abbrev pub child_at : List ℕ → ℕ → ℕ → ℕ → ℕ
 child_at pool n j c = word_at pool (child_word n j c)
+
+-- the sixteen of them
+abbrev pub children_at : List ℕ → ℕ → ℕ → List ℕ
+children_at pool n j = take 16 (drop (node_word n j + 1) pool)
 
 -- "1 to 1024 is leaf number r - 1, 1025 to 2047 is node number r - 1025"
 abbrev pub leaf_ref : ℕ → ℕ

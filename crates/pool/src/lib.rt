@@ -1,47 +1,40 @@
 // A pool's sizes, references and places. All later code takes them from these functions.
 #![tactic(auto)]
 
-ghost use Rattle.std.specs.Prelude.{◌≡◌, ◌+◌, ◌<◌, ◌≤◌};
-ghost use Rattle.pool.specs.Sizes.{size_of, capacity_of, Sized, Measured};
-ghost use Rattle.pool.specs.Places.{leaf_word, node_word, key_at, value_at, header_at, child_at, leaf_ref, node_ref};
+ghost use Rattle.std.specs.Prelude.{◌≡◌, ◌+◌, ◌<◌, ◌≤◌, None, Some, MatchOption, length};
+ghost use Rattle.pool.specs.Sizes.{size_of, capacity_of, bytes_of, Sized, Measured, Mapped};
+ghost use Rattle.pool.specs.Places.{word_at, leaf_word, node_word, key_at, value_at, header_at, child_at, children_at, leaf_ref, node_ref};
 ghost use Rattle.pool.specs.Refs.{ref_of, Within};
 
 use digits::Header;
 
-// The capacity that a run of words has, or that its size is wrong.
-#[derive(Clone, Copy)]
-pub enum Size {
-    Holds(usize),
-    Wrong,
-}
-
 // Leaves of a pool, at most.
 pub const MOST: u64 = 1024;
 
-// The size of a run of so many words that is to hold n leaves. N is judged before 19N - 15 is formed.
-pub fn size_of(words: usize, n: u64) -> Size
+// The leaves that a run of so many words holds, if it is the size of a pool of n leaves. N is judged before 19N - 15 is formed.
+pub fn size_of(words: usize, n: u64) -> Option<usize>
     ensures { result ≡ size_of words n }
 {
     if n < 1 {
-        return Size::Wrong;
+        return None;
     }
     if MOST < n {
-        return Size::Wrong;
+        return None;
     }
     let leaves = n as usize;
     if words == 19 * leaves - 15 {
-        Size::Holds(leaves)
+        Some(leaves)
     } else {
-        Size::Wrong
+        None
     }
 }
 
-// The capacity of a pool: its length and word 0 agree.
-pub fn capacity(pool: &[u64]) -> Size
+// The capacity of a pool, if its length and word 0 agree.
+pub fn capacity(pool: &[u64]) -> Option<usize>
     ensures { (result ≡ capacity_of pool.now) × Measured pool.now result }
 {
-    if pool.len() == 0 {
-        return Size::Wrong;
+    if pool.is_empty() {
+        return None;
     }
     size_of(pool.len(), pool[0])
 }
@@ -106,34 +99,90 @@ pub fn node_word(n: usize, j: usize) -> usize
     2 + 2 * n + (Header::CHILDREN + 1) * j
 }
 
-// The key of leaf i.
-pub fn leaf_key(pool: &[u64], n: usize, i: usize) -> u64
-    requires { Sized pool.now n × (i < n) }
-    ensures { result ≡ key_at pool.now i }
-{
-    pool[2 + 2 * i]
+// A run of words that holds a pool of n leaves, to be read.
+#[derive(Clone, Copy)]
+pub struct Pool<'a> {
+    pub words: &'a [u64],
+    pub n: usize,
+    pub ghost sized: { Sized words.now n },
 }
 
-// The value of leaf i.
-pub fn leaf_value(pool: &[u64], n: usize, i: usize) -> u64
-    requires { Sized pool.now n × (i < n) }
-    ensures { result ≡ value_at pool.now i }
-{
-    pool[2 + 2 * i + 1]
+impl<'a> Pool<'a> {
+    // The pool in a run of words, if its length and word 0 agree.
+    pub fn of(words: &'a [u64]) -> Option<Self>
+        ensures { MatchOption result (capacity_of words.now ≡ None) (λ p. (capacity_of words.now ≡ Some p.n) × (p.words.now ≡ words.now)) }
+    {
+        let n = capacity(words)?;
+        Some(Pool { words, n })
+    }
+
+    // The reference to the root.
+    pub fn root(&self) -> u64
+        ensures { result ≡ word_at self.now.words.now 1 }
+    {
+        self.words[1]
+    }
+
+    // The key of leaf i.
+    pub fn leaf_key(&self, i: usize) -> u64
+        requires { i < self.now.n }
+        ensures { result ≡ key_at self.now.words.now i }
+    {
+        self.words[leaf_word(i)]
+    }
+
+    // The value of leaf i.
+    pub fn leaf_value(&self, i: usize) -> u64
+        requires { i < self.now.n }
+        ensures { result ≡ value_at self.now.words.now i }
+    {
+        self.words[leaf_word(i) + 1]
+    }
+
+    // The header of node j.
+    pub fn header(&self, j: usize) -> u64
+        requires { j + 1 < self.now.n }
+        ensures { result ≡ header_at self.now.words.now self.now.n j }
+    {
+        self.words[node_word(self.n, j)]
+    }
+
+    // Child c of node j.
+    pub fn child(&self, j: usize, c: usize) -> u64
+        requires { (j + 1 < self.now.n) × (c < 16) }
+        ensures { result ≡ child_at self.now.words.now self.now.n j c }
+    {
+        self.words[node_word(self.n, j) + 1 + c]
+    }
+
+    // The sixteen children of node j.
+    pub fn children(&self, j: usize) -> &'a [u64]
+        requires { j + 1 < self.now.n }
+        ensures { result.now ≡ children_at self.now.words.now self.now.n j }
+    {
+        let first = node_word(self.n, j) + 1;
+        &self.words[first..first + Header::CHILDREN]
+    }
 }
 
-// The header of node j.
-pub fn header(pool: &[u64], n: usize, j: usize) -> u64
-    requires { Sized pool.now n × (j + 1 < n) }
-    ensures { result ≡ header_at pool.now n j }
-{
-    pool[2 + 2 * n + (Header::CHILDREN + 1) * j]
+// A map of a pool of n leaves, to be read: a byte for each leaf, then one for each node.
+#[derive(Clone, Copy)]
+pub struct Map<'a> {
+    pub bytes: &'a [u8],
+    pub n: usize,
+    pub ghost mapped: { Mapped bytes.now n },
 }
 
-// Child c of node j.
-pub fn child(pool: &[u64], n: usize, j: usize, c: usize) -> u64
-    requires { Sized pool.now n × (j + 1 < n) × (c < 16) }
-    ensures { result ≡ child_at pool.now n j c }
-{
-    pool[2 + 2 * n + (Header::CHILDREN + 1) * j + 1 + c]
+impl<'a> Map<'a> {
+    // The map in a run of bytes, if it is as long as a pool of n leaves asks.
+    pub fn of(bytes: &'a [u8], n: usize) -> Option<Self>
+        requires { (1 ≤ n) × (n ≤ 1024) }
+        ensures { MatchOption result (¬ (length bytes.now ≡ bytes_of n)) (λ m. (m.bytes.now ≡ bytes.now) × (m.n ≡ n)) }
+    {
+        if bytes.len() == 2 * n - 1 {
+            Some(Map { bytes, n })
+        } else {
+            None
+        }
+    }
 }

@@ -1,13 +1,12 @@
 -- Which plan a delete comes to: by where the walk ends.
 -- Assumes nothing.
+use Rattle.std.specs.Prelude.{None, Option, Some}
 use mathlib.Core.Path.{◌≡◌, refl, ◌∙◌}
 use mathlib.Core.List.{List}
 use Prim.Native.Nat.{ℕ}
 use borrow.Author.Tests.{eq-eqb, ne_eqb}
 use Rattle.pool.specs.Sizes.{capacity_of}
 use Rattle.pool.specs.Places.{key_at}
-use Rattle.pool.specs.declared.Size.{Size}
-use Rattle.pool.specs.declared.Size.TheVariants.{Holds, Wrong}
 use Rattle.walk.specs.Walks.{walk_of}
 use Rattle.walk.specs.declared.Spot.{Spot}
 use Rattle.walk.specs.declared.End.{End}
@@ -16,13 +15,13 @@ use Rattle.plan.specs.Plans.{refused}
 use Rattle.plan.specs.declared.Effect.TheVariants.{FreesLeaf}
 use Rattle.rules.specs.Deletes.{emptied, unlink_of, miss_of, delete_at, delete_plan}
 
-pub delete_unsized : (pool : List ℕ) (k : ℕ) {z : Size} → z ≡ capacity_of pool → z ≡ Wrong → refused 1 ≡ delete_plan pool k
+pub delete_unsized : (pool : List ℕ) (k : ℕ) {z : Option ℕ} → z ≡ capacity_of pool → z ≡ None → refused 1 ≡ delete_plan pool k
 unfolding delete_plan
 delete_unsized pool k size h = rw (← size, h)
 
 -- what is known once the walk has ended
 pub record Walked (pool : List ℕ) (n k : ℕ) (e : End) : Type 0 where
-  pub size : Holds n ≡ capacity_of pool
+  pub size : Some n ≡ capacity_of pool
   pub walks : e ≡ walk_of pool n k
 
 module _ {pool : List ℕ} {n k : ℕ} {e : End} (w : Walked pool n k e) where

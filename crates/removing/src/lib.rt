@@ -1,15 +1,17 @@
 // What a delete comes to, in any pool.
 #![tactic(auto)]
 
-ghost use Rattle.std.specs.Prelude.{◌≡◌, ◌+◌, ◌<◌, ◌≤◌};
-ghost use Rattle.pool.specs.Sizes.{Sized, capacity_of};
-ghost use Rattle.removing.specs.Removals.{decided_by};
+ghost use Rattle.std.specs.Prelude.{◌≡◌, ◌+◌, ◌<◌, ◌≤◌, Some};
+ghost use Rattle.refusals.specs.Refusals.{number_of};
+ghost use Rattle.pool.specs.Sizes.{capacity_of};
+ghost use Rattle.removing.specs.Removals.{removed_by, decided_by};
 ghost use Rattle.rules.specs.Deletes.{with_node, emptied, bypassed, lift_in, merge_with, unlink_of, miss_of, delete_plan};
 
 use digits::Header;
 use plan::Effect;
-use pool::{Ref, Size};
-use walk::{End, Head, Lowest, Spot};
+use pool::{Pool, Ref};
+use refusals::Refusal;
+use walk::{End, Spot};
 
 // The switch of a removal: the reference in the word `at` takes another child, or 0.
 #[derive(Clone, Copy)]
@@ -25,12 +27,12 @@ pub struct Follows {
     pub header: u64,
 }
 
-// What a removal comes to: a number; or a switch, which a header may follow, and what they do to the map.
+// What a removal comes to: a switch, which a header may follow, and what they do to the map.
 #[derive(Clone, Copy)]
-pub enum Removal {
-    Refused(u64),
-    Switched(Switch, Effect),
-    Lifted(Switch, Follows, Effect),
+pub struct Removal {
+    pub switch: Switch,
+    pub follows: Option<Follows>,
+    pub effect: Effect,
 }
 
 // What an effect frees, and the node whose byte in the map is `node`.
@@ -48,106 +50,114 @@ fn with_node(freed: Effect, node: usize) -> Effect
 
 // One store: the reference `at` becomes 0.
 fn empty(at: usize, freed: Effect) -> Removal
-    ensures { decided_by result ≡ emptied at freed }
+    ensures { removed_by result ≡ emptied at freed }
 {
-    Removal::Switched(Switch { at, child: 0 }, freed)
+    Removal {
+        switch: Switch { at, child: 0 },
+        follows: None,
+        effect: freed,
+    }
 }
 
 // One store: the reference to the node takes the other child, the leaf r.
 fn bypass(n: usize, s: Spot, freed: Effect, r: u64) -> Removal
     requires { (n ≤ 1024) × (s.node < 1024) }
-    ensures { decided_by result ≡ bypassed n s freed r }
+    ensures { removed_by result ≡ bypassed n s freed r }
 {
-    let switch = Switch {
-        at: s.over,
-        child: r,
-    };
-    Removal::Switched(switch, with_node(freed, n + s.node))
+    Removal {
+        switch: Switch {
+            at: s.over,
+            child: r,
+        },
+        follows: None,
+        effect: with_node(freed, n + s.node),
+    }
 }
 
 // Two stores: the reference to the node takes the other child, node j, to which r in the word `at` refers; its header follows.
-fn lift(pool: &[u64], n: usize, s: Spot, freed: Effect, at: usize, r: u64, j: usize) -> Removal
-    requires { Sized pool.now n × (s.node < 1024) × (s.depth ≤ 16) × (s.above ≤ s.depth) × (j + 1 < n) }
-    ensures { decided_by result ≡ lift_in pool.now n s freed at r j }
+fn lift(
+    pool: &Pool,
+    s: Spot,
+    freed: Effect,
+    at: usize,
+    r: u64,
+    j: usize,
+) -> Result<Removal, Refusal>
+    requires { (s.node < 1024) × (s.depth ≤ 16) × (s.above ≤ s.depth) × (j + 1 < pool.now.n) }
+    ensures { decided_by result ≡ lift_in pool.now.words.now pool.now.n s freed at r j }
 {
-    let Head::Branch(b) = walk::accept(s.depth, pool::header(pool, n, j)) else {
-        return Removal::Refused(2);
-    };
-    let Lowest::Key(near) = walk::lowest_leaf(pool, n, s.depth, at, r) else {
-        return Removal::Refused(2);
-    };
+    let b = walk::accept(s.depth, pool.header(j)).ok_or(Refusal::Damage)?;
+    let near = walk::lowest_leaf(pool, s.depth, at, r)?;
+    // The switch first: from here the key is gone, and the child's header is stale, which every walk accepts.
     let switch = Switch {
         at: s.over,
         child: r,
     };
-    // The switch first: from here the key is gone, and the child's header is stale, which every walk accepts.
     let follows = Follows {
-        word: pool::node_word(n, j),
+        word: pool::node_word(pool.n, j),
         header: Header::pack(s.above, b - s.above, near),
     };
-    Removal::Lifted(switch, follows, with_node(freed, n + s.node))
+    Ok(Removal {
+        switch,
+        follows: Some(follows),
+        effect: with_node(freed, pool.n + s.node),
+    })
 }
 
 // The node has one other child, r, in the word `at`.
-fn merge(pool: &[u64], n: usize, s: Spot, freed: Effect, at: usize, r: u64) -> Removal
-    requires { Sized pool.now n × (s.node < 1024) × (s.depth ≤ 16) × (s.above ≤ s.depth) }
-    ensures { decided_by result ≡ merge_with pool.now n s freed at r }
+fn merge(pool: &Pool, s: Spot, freed: Effect, at: usize, r: u64) -> Result<Removal, Refusal>
+    requires { (s.node < 1024) × (s.depth ≤ 16) × (s.above ≤ s.depth) }
+    ensures { decided_by result ≡ merge_with pool.now.words.now pool.now.n s freed at r }
 {
-    match pool::reference(n, r) {
-        Ref::Empty => Removal::Refused(2),
-        Ref::Leaf(_) => bypass(n, s, freed, r),
-        Ref::Node(j) => lift(pool, n, s, freed, at, r, j),
-        Ref::Bad => Removal::Refused(2),
+    match pool::reference(pool.n, r) {
+        Ref::Leaf(_) => Ok(bypass(pool.n, s, freed, r)),
+        Ref::Node(j) => lift(pool, s, freed, at, r, j),
+        Ref::Empty | Ref::Bad => Err(Refusal::Damage),
     }
 }
 
 // What is freed hangs below a node.
-fn unlink(pool: &[u64], n: usize, s: Spot, freed: Effect) -> Removal
-    requires { Sized pool.now n × (s.node + 1 < n) × (s.depth ≤ 16) × (s.above ≤ s.depth) }
-    ensures { decided_by result ≡ unlink_of pool.now n s freed }
+fn unlink(pool: &Pool, s: Spot, freed: Effect) -> Result<Removal, Refusal>
+    requires { (s.node + 1 < pool.now.n) × (s.depth ≤ 16) × (s.above ≤ s.depth) }
+    ensures { decided_by result ≡ unlink_of pool.now.words.now pool.now.n s freed }
 {
     let node = s.node;
-    let count = walk::children(pool, n, node);
+    let count = walk::children(pool, node);
     if count < 2 {
-        return Removal::Refused(2);
+        return Err(Refusal::Damage);
     }
     if 2 < count {
-        return empty(s.at, freed);
+        return Ok(empty(s.at, freed));
     }
-    let c = walk::other_child(pool, n, node, s.at);
-    if Header::CHILDREN <= c {
-        return Removal::Refused(2);
-    }
-    let at = pool::node_word(n, node) + 1 + c;
-    merge(pool, n, s, freed, at, pool::child(pool, n, node, c))
+    let c = walk::other_child(pool, node, s.at).ok_or(Refusal::Damage)?;
+    let at = pool::node_word(pool.n, node) + 1 + c;
+    merge(pool, s, freed, at, pool.child(node, c))
 }
 
-// The number of a walk that ended at no leaf.
-fn miss(end: End) -> u64
-    ensures { result ≡ miss_of end }
+// Why a walk that ended at no leaf finds no key.
+fn miss(end: End) -> Refusal
+    ensures { number_of result ≡ miss_of end }
 {
     match end {
-        End::AtLeaf(_, _) => 2,
-        End::AtEmpty(_) => 3,
-        End::Stopped(_, _, _) => 2,
-        End::Damaged(_, _) => 2,
+        End::AtEmpty(_) => Refusal::Absent,
+        End::AtLeaf(_, _) | End::Stopped(_, _, _) | End::Damaged(_, _) => Refusal::Damage,
     }
 }
 
-// What a delete comes to in a pool of n leaves.
-pub fn find_removal(pool: &[u64], n: usize, key: u64) -> Removal
-    requires { Sized pool.now n × (capacity_of pool.now ≡ Size.Holds n) }
-    ensures { decided_by result ≡ delete_plan pool.now key }
+// What a delete comes to in a pool.
+pub fn find_removal(pool: &Pool, key: u64) -> Result<Removal, Refusal>
+    requires { capacity_of pool.now.words.now ≡ Some pool.now.n }
+    ensures { decided_by result ≡ delete_plan pool.now.words.now key }
 {
-    let end = walk::walk(pool, n, key);
+    let end = walk::walk(pool, key);
     let End::AtLeaf(s, i) = end else {
-        return Removal::Refused(miss(end));
+        return Err(miss(end));
     };
-    if pool::leaf_key(pool, n, i) != key {
-        return Removal::Refused(3);
+    if pool.leaf_key(i) != key {
+        return Err(Refusal::Absent);
     }
     if s.nodes == 0 {
-        return empty(s.at, Effect::FreesLeaf(i));
+        return Ok(empty(s.at, Effect::FreesLeaf(i)));
     }
-    unlink(pool, n, s, Effect::FreesLeaf(i))
+    unlink(pool, s, Effect::FreesLeaf(i))
 }

@@ -1,6 +1,7 @@
 -- Every plan of a put or a delete fits, in every pool, map and key, damaged ones too: its stores lie inside the pool, at most 21; the bytes that it names
 -- lie inside the map; its number of stores is its case's; a refusal does nothing.
 -- Assumes nothing.
+use Rattle.std.specs.Prelude.{Err, None, Ok, Option, Result, Some}
 use mathlib.Core.Path.{◌≡◌, refl, sym, ap, ◌∙◌}
 use mathlib.Core.Logic.{inl, inr}
 use mathlib.Core.Bool.{Bool, true, false}
@@ -19,21 +20,16 @@ use Rattle.tree.proofs.Stores.{Words, words_block}
 use Rattle.pool.specs.Sizes.{capacity_of, bytes_of, Sized, Measured}
 use Rattle.pool.specs.Places.{word_at, key_at, header_at, node_word, child_word}
 use Rattle.pool.specs.Refs.{ref_of, Within}
-use Rattle.pool.specs.declared.Size.{Size}
-use Rattle.pool.specs.declared.Size.TheVariants.{Holds, Wrong}
 use Rattle.pool.specs.declared.Ref.{Ref}
 use Rattle.pool.specs.declared.Ref.TheVariants.{Empty, Leaf, Node, Bad}
 use Rattle.pool.proofs.Sizes.{size_fits}
 use Rattle.pool.proofs.Refs.{within}
+use Rattle.walk.specs.declared.Fault.{Fault}
 use Rattle.walk.specs.Walks.{head_of, walk_of, walk_to, lowest_of, children_of, other_child}
 use Rattle.walk.specs.Ends.{Passed, Ends}
-use Rattle.walk.specs.declared.Head.{Head}
-use Rattle.walk.specs.declared.Head.TheVariants.{Branch, Wrong as Unaccepted}
 use Rattle.walk.specs.declared.Spot.{Spot}
 use Rattle.walk.specs.declared.End.{End}
 use Rattle.walk.specs.declared.End.TheVariants.{AtLeaf, AtEmpty, Stopped, Damaged}
-use Rattle.walk.specs.declared.Lowest.{Lowest}
-use Rattle.walk.specs.declared.Lowest.TheVariants.{Key, NoKey}
 use Rattle.walk.proofs.Ends.{walk_inside}
 use Rattle.layout.specs.Operations.{put_stores}
 use Rattle.plan.specs.Plans.{Decided, refused}
@@ -43,12 +39,11 @@ use Rattle.plan.proofs.Laws.{unused}
 use Rattle.rules.specs.declared.Cleft.{Cleft}
 use Rattle.rules.specs.declared.Target.{Target}
 use Rattle.rules.specs.declared.Target.TheVariants.{ALeaf, ANode}
-use Rattle.rules.specs.declared.Room.{Room}
-use Rattle.rules.specs.declared.Room.TheVariants.{Slots, Full}
-use Rattle.rules.specs.Puts.{free_leaf, grow_of, split_child, target_header, cleaving, room_of, split_in, split_of}
+use Rattle.rules.specs.Puts.{free_leaf, grow_of, split_child, target_header, cleaving, slots, room_of, split_in, split_of}
 use Rattle.rules.specs.Puts.{cleft_at, placed_at, beside_of, below_last, put_at, put_in, put_plan}
 use Rattle.rules.specs.Counts.{for_node, put_count, delete_count}
 use Rattle.rules.specs.Deletes.{emptied, lift_of, lift_at, merge_of, unlink_of, delete_at, delete_in, delete_plan}
+use Rattle.rules.specs.declared.Slots.{Slots}
 use Rattle.rules.proofs.Splits.{slots_inside, split_all}
 
 -- a plan of as many stores as it is to have, or a refusal that does nothing, with one of these numbers
@@ -89,13 +84,13 @@ answer_refusal (plans e h) o = absurd (o e)
 answer_refusal (refuses k h e) o = e ∙ ap (λ (x : Decided). refused x.number) (sym e)
 
 -- as many leaves as a pool of a size has, and as many bytes as its map
-abbrev pub leaves_in : Size → ℕ
-leaves_in (Holds n) = n
-leaves_in Wrong = 0
+abbrev pub leaves_in : Option ℕ → ℕ
+leaves_in (Some n) = n
+leaves_in None = 0
 
-abbrev pub bytes_in : Size → ℕ
-bytes_in (Holds n) = bytes_of n
-bytes_in Wrong = 0
+abbrev pub bytes_in : Option ℕ → ℕ
+bytes_in (Some n) = bytes_of n
+bytes_in None = 0
 
 -- ---- puts
 -- the numbers that refuse a put
@@ -141,7 +136,7 @@ module _ {pool : List ℕ} (map : List ℕ) {n : ℕ} (z : Sized pool n) (l : le
       header (ANode j b) h = (omega (arith, h.1), tt)
 
       counts : (leaf byte : ℕ) (target : Target) → Known n (word_at pool s.at) target
-          → length (put_stores (cleaving n s leaf (byte - n) k v target)) ≡ put_stored pool n (split_in n s k v target (Slots leaf byte))
+          → length (put_stores (cleaving n s leaf (byte - n) k v target)) ≡ put_stored pool n (split_in n s k v target (Some (slots leaf byte)))
       counts leaf byte ALeaf h = rw h
       counts leaf byte (ANode j b) h = rw h.0
 
@@ -156,16 +151,16 @@ module _ {pool : List ℕ} (map : List ℕ) {n : ℕ} (z : Sized pool n) (l : le
           split_all P n s leaf node k v (omega arith) (omega arith)
           (words_block P (node_word n node) vs (λ i g h. omega arith)) at< target (header target known)
 
-      go : (r : Room) → room_of map n ≡ r → PutFits pool map n (split_in n s k v target r)
-      go (Slots leaf byte) e =
+      go : (r : Option Slots) → room_of map n ≡ r → PutFits pool map n (split_in n s k v target r)
+      go (Some r) e =
           let h = slots_inside map n (sym e) in
           record {
-            inside = stores leaf (byte - n) (omega arith) (omega arith);
-            few = few leaf (byte - n) target;
+            inside = stores r.leaf (r.node - n) (omega arith) (omega arith);
+            few = few r.leaf (r.node - n) target;
             named = ((omega arith, (omega arith, tt)), tt);
-            answers = plans refl (counts leaf byte target known);
+            answers = plans refl (counts r.leaf r.node target known);
           }
-      go Full e = refusal 4 (hit put_numbers 4 tt)
+      go None e = refusal 4 (hit put_numbers 4 tt)
 
   beside_fits : (last gap k2 : ℕ) → gap < length pool → PutFits pool map n (beside_of pool map n k v last gap k2)
   beside_fits last gap k2 g = either (eqb f 16) (λ e. damage) (λ e. go (walk_to pool n k f) (walk_inside z k f refl))
@@ -190,9 +185,9 @@ module _ {pool : List ℕ} (map : List ℕ) {n : ℕ} (z : Sized pool n) (l : le
   put_at_fits (AtEmpty s) h =
       either (eqb s.nodes 0) (λ e. grow_fits s.at (omega (arith, h.inside.at<))) (λ e. go (lowest_of pool n s.above s.over (word_at pool s.over)))
     where
-      go : (r : Lowest) → PutFits pool map n (below_last pool map n k v s r)
-      go (Key k2) = beside_fits s.nodes s.at k2 (omega (arith, h.inside.at<))
-      go (NoKey f) = damage
+      go : (r : Result ℕ Fault) → PutFits pool map n (below_last pool map n k v s r)
+      go (Ok k2) = beside_fits s.nodes s.at k2 (omega (arith, h.inside.at<))
+      go (Err f) = damage
   put_at_fits (Stopped s j b) h = damage
   put_at_fits (Damaged m f) h = damage
 
@@ -200,13 +195,13 @@ pub put_fits : (pool map : List ℕ) (k v : ℕ) → PutFits pool map (leaves_in
 unfolding put_plan capacity_of
 put_fits pool map k v = go (capacity_of pool) (size_fits pool (get_or pool 0 0))
   where
-    go : (z : Size) → Measured pool z → PutFits pool map (leaves_in z) (put_in pool map k v z)
-    go (Holds n) z =
+    go : (z : Option ℕ) → Measured pool z → PutFits pool map (leaves_in z) (put_in pool map k v z)
+    go (Some n) z =
         either (eqb (length map) (bytes_of n))
         (λ e. either (eqb v 0) (λ r. refusal 7 (hit put_numbers 7 tt))
         (λ r. put_at_fits map z (eqb-true (length map) (bytes_of n) e) k v (walk_of pool n k) (walk_inside z k 16 refl)))
         (λ e. refusal 1 (hit put_numbers 1 tt))
-    go Wrong z = refusal 1 (hit put_numbers 1 tt)
+    go None z = refusal 1 (hit put_numbers 1 tt)
 
 -- its stores lie inside the pool, at most 21
 pub put_inside : (pool map : List ℕ) (k v : ℕ) → Words (λ w. w < length pool) (put_plan pool map k v).stores
@@ -223,7 +218,7 @@ pub put_number : (pool map : List ℕ) (k v : ℕ) → OneOf (0 ∷ 1 ∷ 2 ∷ 
 put_number pool map k v = answer_number (put_fits pool map k v).answers
 
 -- 1, 3, 20 or 21 stores
-pub put_count_lem : (pool map : List ℕ) (k v : ℕ) {n : ℕ} → capacity_of pool ≡ Holds n → (put_plan pool map k v).number ≡ 0
+pub put_count_lem : (pool map : List ℕ) (k v : ℕ) {n : ℕ} → capacity_of pool ≡ Some n → (put_plan pool map k v).number ≡ 0
     → length (put_plan pool map k v).stores ≡ put_stored pool n (put_plan pool map k v)
 put_count_lem pool map k v e = answer_count (miss put_numbers 0 tt) (rw e at (put_fits pool map k v).answers)
 
@@ -252,16 +247,16 @@ module _ {pool : List ℕ} {n : ℕ} (z : Sized pool n) where
   emptied_fits at i h l = record { inside = (h, tt); few = omega arith; named = search arith; answers = plans refl refl }
 
   module _ {s : Spot} (p : Passed pool n s) (i : ℕ) (l : i < n) where
-    lift_fits : (r j b : ℕ) (k : Lowest) → j + 1 < n → ref_of n r ≡ Node j → DeleteFits pool n (bytes_of n) (lift_of n s (FreesLeaf i) r j b k)
+    lift_fits : (r j b : ℕ) (k : Result ℕ Fault) → j + 1 < n → ref_of n r ≡ Node j → DeleteFits pool n (bytes_of n) (lift_of n s (FreesLeaf i) r j b k)
     unfolding Words
-    lift_fits r j b (Key k2) h to =
+    lift_fits r j b (Ok k2) h to =
         record {
           inside = (omega (arith, p.over<), (omega arith, tt));
           few = omega arith;
           named = (tt, (omega arith, (omega (arith, p.accepted.j<), tt)));
           answers = plans refl (rw to);
         }
-    lift_fits r j b (NoKey f) h to = unmet
+    lift_fits r j b (Err f) h to = unmet
 
     merge_fits : (at r : ℕ) (o : Ref) → Within n o → ref_of n r ≡ o → DeleteFits pool n (bytes_of n) (merge_of pool n s (FreesLeaf i) at r o)
     unfolding Words
@@ -275,9 +270,9 @@ module _ {pool : List ℕ} {n : ℕ} (z : Sized pool n) where
         }
     merge_fits at r (Node j) h to = go (head_of s.depth (header_at pool n j))
       where
-        go : (d : Head) → DeleteFits pool n (bytes_of n) (lift_at pool n s (FreesLeaf i) at r j d)
-        go (Branch b) = lift_fits r j b (lowest_of pool n s.depth at r) h to
-        go Unaccepted = unmet
+        go : (d : Option ℕ) → DeleteFits pool n (bytes_of n) (lift_at pool n s (FreesLeaf i) at r j d)
+        go (Some b) = lift_fits r j b (lowest_of pool n s.depth at r) h to
+        go None = unmet
     merge_fits at r Bad h to = unmet
 
     unlink_fits : s.at < length pool → DeleteFits pool n (bytes_of n) (unlink_of pool n s (FreesLeaf i))
@@ -308,9 +303,9 @@ pub delete_fits : (pool : List ℕ) (k : ℕ) → DeleteFits pool (leaves_in (ca
 unfolding delete_plan capacity_of
 delete_fits pool k = go (capacity_of pool) (size_fits pool (get_or pool 0 0))
   where
-    go : (z : Size) → Measured pool z → DeleteFits pool (leaves_in z) (bytes_in z) (delete_in pool k z)
-    go (Holds n) z = delete_at_fits z k (walk_of pool n k) (walk_inside z k 16 refl)
-    go Wrong z = refusal 1 (hit delete_numbers 1 tt)
+    go : (z : Option ℕ) → Measured pool z → DeleteFits pool (leaves_in z) (bytes_in z) (delete_in pool k z)
+    go (Some n) z = delete_at_fits z k (walk_of pool n k) (walk_inside z k 16 refl)
+    go None z = refusal 1 (hit delete_numbers 1 tt)
 
 -- its stores lie inside the pool, at most 21
 pub delete_inside : (pool : List ℕ) (k : ℕ) → Words (λ w. w < length pool) (delete_plan pool k).stores
@@ -320,14 +315,14 @@ pub delete_few : (pool : List ℕ) (k : ℕ) → length (delete_plan pool k).sto
 delete_few pool k = (delete_fits pool k).few
 
 -- the bytes that it frees lie inside the pool's map
-pub delete_named : (pool : List ℕ) (k : ℕ) {n : ℕ} → capacity_of pool ≡ Holds n → Inside (delete_plan pool k).effect (bytes_of n)
+pub delete_named : (pool : List ℕ) (k : ℕ) {n : ℕ} → capacity_of pool ≡ Some n → Inside (delete_plan pool k).effect (bytes_of n)
 delete_named pool k e = rw e at (delete_fits pool k).named
 
 pub delete_number : (pool : List ℕ) (k : ℕ) → OneOf (0 ∷ 1 ∷ 2 ∷ 3 ∷ []) (delete_plan pool k).number
 delete_number pool k = answer_number (delete_fits pool k).answers
 
 -- 1 or 2 stores
-pub delete_count_lem : (pool : List ℕ) (k : ℕ) {n : ℕ} → capacity_of pool ≡ Holds n → (delete_plan pool k).number ≡ 0
+pub delete_count_lem : (pool : List ℕ) (k : ℕ) {n : ℕ} → capacity_of pool ≡ Some n → (delete_plan pool k).number ≡ 0
     → length (delete_plan pool k).stores ≡ delete_stored n (delete_plan pool k)
 delete_count_lem pool k e = answer_count (miss delete_numbers 0 tt) (rw e at (delete_fits pool k).answers)
 

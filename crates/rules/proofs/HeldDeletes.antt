@@ -1,8 +1,8 @@
 -- On a pool that holds a tree, the stores of a delete do to the tree what a delete means: from the first on the key is gone and nothing else has
 -- changed. A delete is refused only where the key is not held. Rests on the layout's deletes and on the walk in a held pool. Assumes nothing.
+use Rattle.std.specs.Prelude.{Some, None}
 use mathlib.Core.Path.{◌≡◌, refl, sym, ap, ◌∙◌, subst}
 use mathlib.Core.Logic.{◌≢◌, ◌⊎◌, inl, inr}
-use mathlib.Core.Option.{none, some}
 use mathlib.Core.List.{List, [], ◌∷◌, ◌++◌}
 use Prim.Native.Nat.{ℕ, ◌+◌, ◌-◌, ◌≤◌, ◌<◌}
 use native.Mathlib.Omega.{arith}
@@ -12,7 +12,6 @@ use Rattle.digits.specs.Choice.{pick}
 use Rattle.digits.proofs.Digits.{digit_lt}
 use Rattle.pool.specs.Sizes.{capacity_of}
 use Rattle.pool.specs.Places.{key_at, child_at, child_word}
-use Rattle.pool.specs.declared.Size.TheVariants.{Holds}
 use Rattle.tree.specs.Tree.{Tree, empty, leaf, node, upd, Filled, Two, sub, dep, Stands, find, Good, GoodAt}
 use Rattle.tree.specs.Near.{children, low, way}
 use Rattle.tree.specs.Shape
@@ -41,9 +40,9 @@ use Rattle.rules.specs.Deletes.{emptied, merge_with, unlink_of, delete_at, delet
 
 -- what the plan of a delete of k is: a refusal where the key is not held, or stores that take it out
 pub data DeleteIs (pool : List ℕ) (n : ℕ) (t : Tree ℕ) (k : ℕ) (d : Decided) : Type 0 where
-  absent : d ≡ refused 3 → find dig k t ≡ none → DeleteIs pool n t k d
+  absent : d ≡ refused 3 → find dig k t ≡ None → DeleteIs pool n t k d
   does : (o : Deleting) (e : Effect) (v : ℕ) → d ≡ decided (delete_stores o) e → Deletes 16 n (mem pool) t k o (frees e) → takes e ≡ []
-      → find dig k t ≡ some v → Words (λ w. 0 < w) (delete_stores o) → DeleteIs pool n t k d
+      → find dig k t ≡ Some v → Words (λ w. 0 < w) (delete_stores o) → DeleteIs pool n t k d
 
 module _ (pool : List ℕ) (n : ℕ) (t : Tree ℕ) (H : Held 16 n (mem pool) t) (k : ℕ) where
   abbrev all : List ℕ
@@ -54,7 +53,7 @@ module _ (pool : List ℕ) (n : ℕ) (t : Tree ℕ) (H : Held 16 n (mem pool) t)
 
   -- ---- the key is found, in leaf x
   module _ (x v : ℕ) (p : Stands all (leaf x k v) t) where
-    found_here : find dig k t ≡ some v
+    found_here : find dig k t ≡ Some v
     found_here = stands_found dig (digit_lt 16) 16 x k v all t H.good p
 
     abbrev plan : Decided
@@ -163,7 +162,7 @@ module _ (pool : List ℕ) (n : ℕ) (t : Tree ℕ) (H : Held 16 n (mem pool) t)
     found = by_place (λ π. π ≡ all → DeleteIs pool n t k plan) t at_root at_child all p.on refl
 
   -- ---- by where the walk ends
-  pub delete_is : capacity_of pool ≡ Holds n → DeleteIs pool n t k (delete_plan pool k)
+  pub delete_is : capacity_of pool ≡ Some n → DeleteIs pool n t k (delete_plan pool k)
   unfolding delete_plan find
   delete_is cap-is =
       rw (cap-is, walk_held pool n k 16 17 root (λ i. 0) t H.holds H.good (omega arith) (omega arith))

@@ -1,10 +1,10 @@
 -- On a pool that holds a tree, with a map that marks just its slots, the stores of a put do to the tree what a put means: whichever of all but the
 -- last are made, the tree is as before; after the last it has the new value. A put is refused only for room.
 -- Rests on the layout's puts, on the walk in a held pool and on room. Assumes nothing.
+use Rattle.std.specs.Prelude.{Ok, Some, None}
 use mathlib.Core.Path.{◌≡◌, refl, sym, ap, ◌∙◌, subst}
 use mathlib.Core.Bool.{Bool, true, false}
 use mathlib.Core.Logic.{◌≢◌, ◌⊎◌, inl, inr}
-use mathlib.Core.Option.{none, some}
 use mathlib.Core.List.{List, [], ◌∷◌, ◌++◌}
 use Prim.Native.Nat.{ℕ, ◌+◌, ◌-◌, ◌^◌, ◌≤◌, ◌<◌}
 use native.Mathlib.Omega.{arith}
@@ -15,7 +15,6 @@ use Rattle.digits.specs.Loops.{scan}
 use Rattle.digits.proofs.Digits.{digit_lt, first_diff_le, first_diff_agree, first_diff_differ, first_diff_same}
 use Rattle.pool.specs.Sizes.{bytes_of, capacity_of}
 use Rattle.pool.specs.Places.{word_at, key_at, node_word, leaf_word, child_word, leaf_ref}
-use Rattle.pool.specs.declared.Size.TheVariants.{Holds}
 use Rattle.tree.specs.Tree.{Tree, empty, leaf, node, mult, leaves, upd, Filled, sub, dep, pre, Stands, Agree, find, Good, GoodAt}
 use Rattle.tree.specs.Near.{filled, low, near, way}
 use Rattle.tree.specs.Stores.{block}
@@ -32,7 +31,6 @@ use Rattle.layout.proofs.Puts.{puts_value, puts_root, puts_child}
 use Rattle.layout.proofs.Splits.{puts_split_leaf, puts_split_node}
 use Rattle.walk.specs.Walks.{root, below, lowest_of}
 use Rattle.walk.specs.declared.Spot.{Spot}
-use Rattle.walk.specs.declared.Lowest.TheVariants.{Key}
 use Rattle.plan.specs.Plans.{Decided, decided, refused}
 use Rattle.plan.specs.Effects.{takes, frees}
 use Rattle.plan.specs.declared.Effect.{Effect}
@@ -61,9 +59,9 @@ way_filled k x k' v' (node y b s kids) e = tt
 
 -- what the plan of a put of v for k is: a refusal for room where the key is new and all n places are held, or stores that put it
 pub data PutIs (pool : List ℕ) (n : ℕ) (t : Tree ℕ) (k v : ℕ) (d : Decided) : Type 0 where
-  full : d ≡ refused 4 → find dig k t ≡ none → leaves t ≡ n → PutIs pool n t k v d
+  full : d ≡ refused 4 → find dig k t ≡ None → leaves t ≡ n → PutIs pool n t k v d
   does : (o : Putting) (e : Effect) → d ≡ decided (put_stores o) e → Puts 16 n (mem pool) t k v o (takes e) → frees e ≡ []
-      → (find dig k t ≡ none → leaves t < n) → Words (λ w. 0 < w) (put_stores o) → PutIs pool n t k v d
+      → (find dig k t ≡ None → leaves t < n) → Words (λ w. 0 < w) (put_stores o) → PutIs pool n t k v d
 
 -- the word of a reference is not word 0
 pub ref_above : (n i : ℕ) (π : List ℕ) (t : Tree ℕ) → 0 < i → 0 < ref_at n i π t
@@ -78,7 +76,7 @@ block_above : (a : ℕ) (vs : List ℕ) → 0 < a → Words (λ w. 0 < w) (block
 block_above a vs h = words_block (λ w. 0 < w) a vs (λ i b c. omega arith)
 
 -- the lowest key of what stands at a place of a tree whose keys are 64-bit numbers is one
-low_named : (t : Tree ℕ) → Good dig 16 0 (λ i. 0) t → ((k v : ℕ) → find dig k t ≡ some v → k < 2 ^ 64) → (u : Tree ℕ) (π : List ℕ) (w : ℕ) (q : ℕ → ℕ)
+low_named : (t : Tree ℕ) → Good dig 16 0 (λ i. 0) t → ((k v : ℕ) → find dig k t ≡ Some v → k < 2 ^ 64) → (u : Tree ℕ) (π : List ℕ) (w : ℕ) (q : ℕ → ℕ)
     → Stands π u t → Good dig 16 w q u → Filled u → low u < 2 ^ 64
 unfolding Good low
 low_named t g names empty π w q p h f = absurd f
@@ -89,7 +87,7 @@ low_named t g names (node x b s kids) π w q p h f =
     low_named t g names (kids d) (π ++ d ∷ []) (b + 1) (upd (dig s) b d) (child dig π d x b s kids t ld p).stands (h.3 d ld) (filled_is (kids d) fd)
 
 module _ (pool bytes : List ℕ) (n : ℕ) (pos : 1 ≤ n) (cap : n ≤ 1024) (t : Tree ℕ) (H : Held 16 n (mem pool) t) (M : Marked n bytes t) (k v : ℕ)
-    (names : (k v : ℕ) → find dig k t ≡ some v → k < 2 ^ 64) (fits : k < 2 ^ 64) where
+    (names : (k v : ℕ) → find dig k t ≡ Some v → k < 2 ^ 64) (fits : k < 2 ^ 64) where
   -- the lowest free leaf and node
   abbrev z : ℕ
   z = free_leaf bytes n
@@ -98,7 +96,7 @@ module _ (pool bytes : List ℕ) (n : ℕ) (pos : 1 ≤ n) (cap : n ≤ 1024) (t
   y = free_node bytes n
 
   -- ---- a new leaf, where one may be put below the reference at a word
-  grow_is : (at : ℕ) → 0 < at → find dig k t ≡ none
+  grow_is : (at : ℕ) → 0 < at → find dig k t ≡ None
       → ((z : ℕ) → z < n → mult z t ≡ 0 → Puts 16 n (mem pool) t k v (growing z k v at) (z ∷ []))
       → PutIs pool n t k v (grow_of bytes n k v at)
   unfolding Words
@@ -112,7 +110,7 @@ module _ (pool bytes : List ℕ) (n : ℕ) (pos : 1 ≤ n) (cap : n ≤ 1024) (t
       go (inr l) = full (rw (le-ltb z n l)) new (all_held pool bytes n t pos H M l)
 
   -- ---- a key that is not found, beside the nearest
-  module _ (new : find dig k t ≡ none) (fl : Filled t) (apart : k ≢ near dig k t) (near_fits : near dig k t < 2 ^ 64) where
+  module _ (new : find dig k t ≡ None) (fl : Filled t) (apart : k ≢ near dig k t) (near_fits : near dig k t < 2 ^ 64) where
     abbrev k₂ : ℕ
     k₂ = near dig k t
 
@@ -247,7 +245,7 @@ module _ (pool bytes : List ℕ) (n : ℕ) (pos : 1 ≤ n) (cap : n ≤ 1024) (t
           rw (eq-eqb (key_at pool x) k (key ∙ p))
           (does (replacing x v) Nothing refl
           (puts_value 16 n (mem pool) t H k v x v' all (record { on = stands.on; is = is ∙ ap (λ i. leaf x i v') p })) refl
-          (λ new. let o : some v' ≡ none = sym (finds ∙ rw (eq-eqb k k' (sym p))) ∙ new in let z : ◌≡◌ {A = ℕ} 0 1 = cc in absurd (omega arith)) (omega arith, tt))
+          (λ new. let o : Some v' ≡ None = sym (finds ∙ rw (eq-eqb k k' (sym p))) ∙ new in let z : ◌≡◌ {A = ℕ} 0 1 = cc in absurd (omega arith)) (omega arith, tt))
       go (other p q) =
           rw (ne_eqb (key_at pool x) k (λ z. p (sym key ∙ z)), key ∙ sym nearest)
           (beside_is (finds ∙ rw (ne_eqb k k' (λ z. p (sym z)))) (way_filled k x k' v' t is) (λ z. p (sym (z ∙ nearest)))
@@ -261,13 +259,13 @@ module _ (pool bytes : List ℕ) (n : ℕ) (pos : 1 ≤ n) (cap : n ≤ 1024) (t
               let o : ◌≡◌ {A = ℕ} 0 1 = cc in
               omega arith
 
-  at_root : t ≡ empty → find dig k t ≡ none → PutIs pool n t k v (empty_put pool bytes n k v end)
+  at_root : t ≡ empty → find dig k t ≡ None → PutIs pool n t k v (empty_put pool bytes n k v end)
   unfolding way spot_at
   at_root e new =
       let w : all ≡ [] = ap (way dig 16 k) e in
       rw w (grow_is 1 (omega arith) new (λ z zn zf. puts_root 16 n (mem pool) t H cap k v z zn zf e))
 
-  below_last_lem : Filled t → LastNode k t → find dig k t ≡ none → PutIs pool n t k v (empty_put pool bytes n k v end)
+  below_last_lem : Filled t → LastNode k t → find dig k t ≡ None → PutIs pool n t k v (empty_put pool bytes n k v end)
   below_last_lem fl L new =
       rw (
         ne_eqb end.nodes 0 (λ z. omega (arith, ap (λ (s : Spot). s.nodes) end_is)),
@@ -307,8 +305,8 @@ module _ (pool bytes : List ℕ) (n : ℕ) (pos : 1 ≤ n) (cap : n ≤ 1024) (t
       shallow : w ≤ 16
       shallow = let a = held_node pool n w r L.x L.b L.s L.kids holds in omega (arith, a.w≤b, a.b<)
 
-      lowest_is : lowest_of pool n w (ref_at n 1 L.ρ t) r ≡ Key (near dig k t)
-      lowest_is = low_held pool n 17 w (ref_at n 1 L.ρ t) r (pre dig L.ρ (λ i. 0) t) last holds good tt shallow (omega arith) ∙ ap Key (sym L.near_is)
+      lowest_is : lowest_of pool n w (ref_at n 1 L.ρ t) r ≡ Ok (near dig k t)
+      lowest_is = low_held pool n 17 w (ref_at n 1 L.ρ t) r (pre dig L.ρ (λ i. 0) t) last holds good tt shallow (omega arith) ∙ ap Ok (sym L.near_is)
 
       apart : k ≢ near dig k t
       apart e = low_apart k w (pre dig L.ρ (λ i. 0) t) L.x L.b L.s L.kids good L.none (e ∙ L.near_is)
@@ -320,7 +318,7 @@ module _ (pool bytes : List ℕ) (n : ℕ) (pos : 1 ≤ n) (cap : n ≤ 1024) (t
   unfolding find
   at_empty e = go (filled t) refl
     where
-      new : find dig k t ≡ none
+      new : find dig k t ≡ None
       new = way_finds 16 k t ∙ ap (find dig k) e
 
       go : (u : Bool) → filled t ≡ u → PutIs pool n t k v (empty_put pool bytes n k v end)
@@ -328,7 +326,7 @@ module _ (pool bytes : List ℕ) (n : ℕ) (pos : 1 ≤ n) (cap : n ≤ 1024) (t
       go true u = below_last_lem (filled_is t u) (near_empty k 0 (λ i. 0) t H.good (filled_is t u) e) new
 
   -- a put that is not of file number 0
-  pub put_is : v ≢ 0 → capacity_of pool ≡ Holds n → PutIs pool n t k v (put_plan pool bytes k v)
+  pub put_is : v ≢ 0 → capacity_of pool ≡ Some n → PutIs pool n t k v (put_plan pool bytes k v)
   unfolding put_plan
   put_is some-file cap-is =
       rw (
@@ -345,6 +343,6 @@ module _ (pool bytes : List ℕ) (n : ℕ) (pos : 1 ≤ n) (cap : n ≤ 1024) (t
       go (node x b s kids) e h = absurd h
 
 -- a put of file number 0 is retired, whatever the pool holds
-pub put_retired : (pool bytes : List ℕ) (n k : ℕ) → capacity_of pool ≡ Holds n → length bytes ≡ bytes_of n → put_plan pool bytes k 0 ≡ refused 7
+pub put_retired : (pool bytes : List ℕ) (n k : ℕ) → capacity_of pool ≡ Some n → length bytes ≡ bytes_of n → put_plan pool bytes k 0 ≡ refused 7
 unfolding put_plan
 put_retired pool bytes n k cap-is size = rw (cap-is, eq-eqb (length bytes) (bytes_of n) size)

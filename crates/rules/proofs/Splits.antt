@@ -1,5 +1,6 @@
 -- The room of a split, and the words of its stores.
 -- Assumes nothing.
+use Rattle.std.specs.Prelude.{Some, None}
 use mathlib.Core.Path.{◌≡◌, refl, ap, ◌∙◌}
 use mathlib.Core.Bool.{Bool, true, false}
 use mathlib.Core.List.{List}
@@ -16,39 +17,38 @@ use Rattle.layout.specs.Operations.{leaf_stores, node_stores, put_stores}
 use Rattle.rules.specs.declared.Cleft.{Cleft}
 use Rattle.rules.specs.declared.Target.{Target}
 use Rattle.rules.specs.declared.Target.TheVariants.{ALeaf, ANode}
-use Rattle.rules.specs.declared.Room.TheVariants.{Slots, Full}
-use Rattle.rules.specs.Puts.{free_from, free_leaf, free_node, target_header, cleaving, room_of}
+use Rattle.rules.specs.declared.Slots.{Slots}
+use Rattle.rules.specs.Puts.{free_from, free_leaf, free_node, target_header, cleaving, slots, room_of}
 use Rattle.rules.proofs.LowestFree.{free_found}
 
 -- ---- room
 module _ (map : List ℕ) (n : ℕ) where
   -- the two slots are where they are looked for
-  pub slots_inside : {leaf byte : ℕ} → Slots leaf byte ≡ room_of map n → (leaf < n) × (n ≤ byte) × (byte < bytes_of n)
-  slots_inside {leaf} {byte} e = go (ltb (free_leaf map n) n) refl (ltb (free_node map n) (bytes_of n)) refl e
+  pub slots_inside : {r : Slots} → Some r ≡ room_of map n → (r.leaf < n) × (n ≤ r.node) × (r.node < bytes_of n)
+  slots_inside {r} e = go (ltb (free_leaf map n) n) refl (ltb (free_node map n) (bytes_of n)) refl e
     where
       go : (s : Bool) → ltb (free_leaf map n) n ≡ s → (t : Bool) → ltb (free_node map n) (bytes_of n) ≡ t
-          → Slots leaf byte ≡ pick s (pick t (Slots (free_leaf map n) (free_node map n)) Full) Full → (leaf < n) × (n ≤ byte) × (byte < bytes_of n)
+          → Some r ≡ pick s (pick t (Some (slots (free_leaf map n) (free_node map n))) None) None → (r.leaf < n) × (n ≤ r.node) × (r.node < bytes_of n)
       go true p true q e =
-          let a : leaf ≡ free_leaf map n = cc in
-          let b : byte ≡ free_node map n = cc in
+          let a : r ≡ slots (free_leaf map n) (free_node map n) = cc in
           let l = ltb-true (free_leaf map n) n p in
           let h = ltb-true (free_node map n) (bytes_of n) q in
-          (omega arith, omega (arith, (free_found map n (bytes_of n) h).0), omega arith)
+          rw a (l, (free_found map n (bytes_of n) h).0, h)
       go true p false q e = let o : ◌≡◌ {A = ℕ} 0 1 = cc in absurd (omega arith)
       go false p t q e = let o : ◌≡◌ {A = ℕ} 0 1 = cc in absurd (omega arith)
 
   module _ {leaf : ℕ} (e : leaf ≡ free_leaf map n) where
-    pub leaves_full : n ≤ leaf → Full ≡ room_of map n
+    pub leaves_full : n ≤ leaf → None ≡ room_of map n
     leaves_full h = rw (← e, le-ltb leaf n h)
 
     module _ {bytes byte : ℕ} (l : bytes ≡ bytes_of n) (f : byte ≡ free_from map n bytes) (h : leaf < n) where
       found : byte ≡ free_node map n
       found = f ∙ ap (free_from map n) l
 
-      pub nodes_full : bytes ≤ byte → Full ≡ room_of map n
+      pub nodes_full : bytes ≤ byte → None ≡ room_of map n
       nodes_full g = rw (← e, ← found, lt-ltb leaf n h, le-ltb byte (bytes_of n) (omega arith))
 
-      pub room_there : byte < bytes → Slots leaf byte ≡ room_of map n
+      pub room_there : byte < bytes → Some (slots leaf byte) ≡ room_of map n
       room_there g = rw (← e, ← found, lt-ltb leaf n h, lt-ltb byte (bytes_of n) (omega arith))
 
 -- ---- the words that a split stores to

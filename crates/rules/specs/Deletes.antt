@@ -1,25 +1,19 @@
 -- What a delete stores, in order, in any pool.
 -- Assumes nothing.
-use Rattle.std.specs.Prelude.{◌≡◌, List, ℕ, ◌+◌, eqb, ltb}
+use Rattle.std.specs.Prelude.{◌≡◌, List, ℕ, ◌+◌, eqb, ltb, Err, None, Ok, Option, Result, Some}
 use Rattle.digits.specs.Choice.{pick}
 use Rattle.pool.specs.Sizes.{capacity_of}
 use Rattle.pool.specs.Places.{key_at, header_at, child_at, child_word}
 use Rattle.pool.specs.Refs.{ref_of}
-use Rattle.pool.specs.declared.Size.{Size}
-use Rattle.pool.specs.declared.Size.TheVariants.{Holds, Wrong}
 use Rattle.pool.specs.declared.Ref.{Ref}
 use Rattle.pool.specs.declared.Ref.TheVariants.{Empty, Leaf, Node, Bad}
 use Rattle.layout.specs.Operations.{delete_stores, emptying, bypassing, lifting}
+use Rattle.walk.specs.declared.Fault.{Fault}
 use Rattle.walk.specs.Walks.{head_of, walk_of, lowest_of, children_of, other_child}
-use Rattle.walk.specs.declared.Head.{Head}
-use Rattle.walk.specs.declared.Head.TheVariants.{Branch, Wrong as Unaccepted}
 use Rattle.walk.specs.declared.Spot.{Spot}
 use Rattle.walk.specs.declared.End.{End}
 use Rattle.walk.specs.declared.End.TheVariants.{AtLeaf, AtEmpty, Stopped, Damaged}
-use Rattle.walk.specs.declared.Lowest.{Lowest}
-use Rattle.walk.specs.declared.Lowest.TheVariants.{Key, NoKey}
-use Rattle.plan.specs.Plans.{the_switch, Decided, decided, refused, planned_for}
-use Rattle.plan.specs.declared.Planned.{Planned}
+use Rattle.plan.specs.Plans.{the_switch, Decided, decided, refused, planned_for, Planned}
 use Rattle.plan.specs.declared.Effect.{Effect}
 use Rattle.plan.specs.declared.Effect.TheVariants.{Nothing, TakesLeaf, TakesBoth, FreesLeaf, FreesBoth}
 
@@ -41,13 +35,13 @@ bypassed n s o r = decided (delete_stores (bypassing s.over r)) (with_node o (n 
 
 -- "If that child is a node, its header follows (depth: walk depth of P; same branch place; digits from its lowest leaf)." The other child r is
 -- node j, which branches at b.
-abbrev pub lift_of : ℕ → Spot → Effect → ℕ → ℕ → ℕ → Lowest → Decided
-lift_of n s o r j b (Key k2) = decided (delete_stores (lifting 16 n s.over r j s.above b k2)) (with_node o (n + s.node))
-lift_of n s o r j b (NoKey f) = refused 2
+abbrev pub lift_of : ℕ → Spot → Effect → ℕ → ℕ → ℕ → Result ℕ Fault → Decided
+lift_of n s o r j b (Ok k2) = decided (delete_stores (lifting 16 n s.over r j s.above b k2)) (with_node o (n + s.node))
+lift_of n s o r j b (Err f) = refused 2
 
-abbrev pub lift_at : List ℕ → ℕ → Spot → Effect → ℕ → ℕ → ℕ → Head → Decided
-lift_at pool n s o at r j (Branch b) = lift_of n s o r j b (lowest_of pool n s.depth at r)
-lift_at pool n s o at r j Unaccepted = refused 2
+abbrev pub lift_at : List ℕ → ℕ → Spot → Effect → ℕ → ℕ → ℕ → Option ℕ → Decided
+lift_at pool n s o at r j (Some b) = lift_of n s o r j b (lowest_of pool n s.depth at r)
+lift_at pool n s o at r j None = refused 2
 
 abbrev pub lift_in : List ℕ → ℕ → Spot → Effect → ℕ → ℕ → ℕ → Decided
 lift_in pool n s o at r j = lift_at pool n s o at r j (head_of s.depth (header_at pool n j))
@@ -88,9 +82,9 @@ delete_at pool n k (AtEmpty s) = refused (miss_of (AtEmpty s))
 delete_at pool n k (Stopped s j b) = refused (miss_of (Stopped s j b))
 delete_at pool n k (Damaged m f) = refused (miss_of (Damaged m f))
 
-abbrev pub delete_in : List ℕ → ℕ → Size → Decided
-delete_in pool k (Holds n) = delete_at pool n k (walk_of pool n k)
-delete_in pool k Wrong = refused 1
+abbrev pub delete_in : List ℕ → ℕ → Option ℕ → Decided
+delete_in pool k (Some n) = delete_at pool n k (walk_of pool n k)
+delete_in pool k None = refused 1
 
 unfoldable pub delete_plan : List ℕ → ℕ → Decided
 delete_plan pool k = delete_in pool k (capacity_of pool)

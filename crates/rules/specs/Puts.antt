@@ -1,39 +1,41 @@
 -- What a put stores, in order, in any pool and map.
 -- Assumes nothing.
-use Rattle.std.specs.Prelude.{◌≡◌, List, [], ◌∷◌, ℕ, ◌+◌, ◌-◌, ◌<◌, eqb, ltb, length, get_or}
+use Rattle.std.specs.Prelude.{◌≡◌, List, [], ◌∷◌, ℕ, ◌+◌, ◌-◌, ◌<◌, eqb, ltb, length, get_or, Err, None, Ok, Option, Result, Some}
 use Rattle.digits.specs.Choice.{pick}
 use Rattle.digits.specs.Loops.{scan}
 use Rattle.digits.specs.Digits.{first_diff}
 use Rattle.tree.specs.Stores.{Store}
 use Rattle.pool.specs.Sizes.{capacity_of, bytes_of}
 use Rattle.pool.specs.Places.{word_at, key_at}
-use Rattle.pool.specs.declared.Size.{Size}
-use Rattle.pool.specs.declared.Size.TheVariants.{Holds, Wrong}
 use Rattle.layout.specs.Operations.{Putting, put_stores, replacing, growing, split_children, target_store, splitting_leaf, splitting_node}
+use Rattle.walk.specs.declared.Fault.{Fault}
 use Rattle.walk.specs.Walks.{walk_of, walk_to, lowest_of}
 use Rattle.walk.specs.declared.Spot.{Spot}
 use Rattle.walk.specs.declared.End.{End}
 use Rattle.walk.specs.declared.End.TheVariants.{AtLeaf, AtEmpty, Stopped, Damaged}
-use Rattle.walk.specs.declared.Lowest.{Lowest}
-use Rattle.walk.specs.declared.Lowest.TheVariants.{Key, NoKey}
-use Rattle.plan.specs.Plans.{all_but_last, Decided, decided, refused, planned_for}
-use Rattle.plan.specs.declared.Planned.{Planned}
+use Rattle.plan.specs.Plans.{all_but_last, Decided, decided, refused, planned_for, Planned}
 use Rattle.plan.specs.declared.Effect.TheVariants.{Nothing, TakesLeaf, TakesBoth}
 use Rattle.rules.specs.declared.Cleft.{Cleft}
 use Rattle.rules.specs.declared.Target.{Target}
 use Rattle.rules.specs.declared.Target.TheVariants.{ALeaf, ANode}
-use Rattle.rules.specs.declared.Room.{Room}
-use Rattle.rules.specs.declared.Room.TheVariants.{Slots, Full}
+use Rattle.rules.specs.declared.Slots.{Slots}
 
 -- "New leaves and nodes are the lowest-numbered free ones." The lowest free byte of a map from one byte to another, or the other.
 abbrev pub free_from : List ℕ → ℕ → ℕ → ℕ
 free_from map from to = scan (to - from) from (λ i. eqb (get_or map i 0) 0)
+
+-- the same as the code says it: none where there is no such byte
+abbrev pub free_of : List ℕ → ℕ → ℕ → Option ℕ
+free_of map from to = pick (ltb (free_from map from to) to) (Some (free_from map from to)) None
 
 abbrev pub free_leaf : List ℕ → ℕ → ℕ
 free_leaf map n = free_from map 0 n
 
 abbrev pub free_node : List ℕ → ℕ → ℕ
 free_node map n = free_from map n (bytes_of n)
+
+abbrev pub leaf_of : List ℕ → ℕ → Option ℕ
+leaf_of map n = free_of map 0 n
 
 -- "leaf key, leaf value, that child. 3 stores." The reference is the word `at`.
 abbrev pub grow_of : List ℕ → ℕ → ℕ → ℕ → ℕ → Decided
@@ -60,13 +62,16 @@ cleaving n s leaf node k v ALeaf = splitting_leaf 16 n s.depth s.diff k v s.near
 cleaving n s leaf node k v (ANode j b) = splitting_node 16 n s.depth s.diff k v s.near leaf node s.at s.old j b
 
 -- a split takes a leaf and a node, each by its byte in the map
-abbrev pub room_of : List ℕ → ℕ → Room
-room_of map n =
-    pick (ltb (free_leaf map n) n) (pick (ltb (free_node map n) (bytes_of n)) (Slots (free_leaf map n) (free_node map n)) Full) Full
+abbrev pub slots : ℕ → ℕ → Slots
+slots leaf node = record { leaf = leaf; node = node }
 
-abbrev pub split_in : ℕ → Cleft → ℕ → ℕ → Target → Room → Decided
-split_in n s k v target (Slots leaf byte) = decided (put_stores (cleaving n s leaf (byte - n) k v target)) (TakesBoth leaf byte)
-split_in n s k v target Full = refused 4
+abbrev pub room_of : List ℕ → ℕ → Option Slots
+room_of map n =
+    pick (ltb (free_leaf map n) n) (pick (ltb (free_node map n) (bytes_of n)) (Some (slots (free_leaf map n) (free_node map n))) None) None
+
+abbrev pub split_in : ℕ → Cleft → ℕ → ℕ → Target → Option Slots → Decided
+split_in n s k v target (Some r) = decided (put_stores (cleaving n s r.leaf (r.node - n) k v target)) (TakesBoth r.leaf r.node)
+split_in n s k v target None = refused 4
 
 abbrev pub split_of : List ℕ → ℕ → Cleft → ℕ → ℕ → Target → Decided
 split_of map n s k v target = split_in n s k v target (room_of map n)
@@ -95,9 +100,9 @@ beside_of pool map n k v last gap k2 =
     pick (eqb (first_diff k k2) 16) (refused 2)
     (placed_at pool map n k v k2 (first_diff k k2) last gap (walk_to pool n k (first_diff k k2)))
 
-abbrev pub below_last : List ℕ → List ℕ → ℕ → ℕ → ℕ → Spot → Lowest → Decided
-below_last pool map n k v s (Key k2) = beside_of pool map n k v s.nodes s.at k2
-below_last pool map n k v s (NoKey f) = refused 2
+abbrev pub below_last : List ℕ → List ℕ → ℕ → ℕ → ℕ → Spot → Result ℕ Fault → Decided
+below_last pool map n k v s (Ok k2) = beside_of pool map n k v s.nodes s.at k2
+below_last pool map n k v s (Err f) = refused 2
 
 -- "1. k is found: one store, the leaf's value."
 abbrev pub replaced : ℕ → ℕ → Decided
@@ -123,9 +128,9 @@ put_at pool map n k v (Damaged m f) = refused 2
 abbrev pub put_file : List ℕ → List ℕ → ℕ → ℕ → ℕ → Decided
 put_file pool map n k v = pick (eqb v 0) (refused 7) (put_at pool map n k v (walk_of pool n k))
 
-abbrev pub put_in : List ℕ → List ℕ → ℕ → ℕ → Size → Decided
-put_in pool map k v (Holds n) = pick (eqb (length map) (bytes_of n)) (put_file pool map n k v) (refused 1)
-put_in pool map k v Wrong = refused 1
+abbrev pub put_in : List ℕ → List ℕ → ℕ → ℕ → Option ℕ → Decided
+put_in pool map k v (Some n) = pick (eqb (length map) (bytes_of n)) (put_file pool map n k v) (refused 1)
+put_in pool map k v None = refused 1
 
 unfoldable pub put_plan : List ℕ → List ℕ → ℕ → ℕ → Decided
 put_plan pool map k v = put_in pool map k v (capacity_of pool)

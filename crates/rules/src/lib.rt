@@ -21,7 +21,7 @@ pub enum Target {
 
 // The free leaf and the free node that a split takes, by their bytes in the map.
 #[derive(Clone, Copy)]
-pub enum Room {
-    Slots(usize, usize),
-    Full,
+pub struct Slots {
+    pub leaf: usize,
+    pub node: usize,
 }

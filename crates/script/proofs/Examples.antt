@@ -1,23 +1,19 @@
 -- Lines and their commands, by computation: those of document 01's example, and lines that are wrong each in its own way.
 -- Assumes nothing.
-use mathlib.Core.Path.{◌≡◌, refl}
-use mathlib.Core.List.{List, [], ◌∷◌, map}
 use Prim.Native.Char.{code}
-use Prim.Native.Nat.{ℕ}
 use Prim.Native.String.{String, [] as []ˢ, ◌∷◌ as ◌∷ˢ◌}
-use lib.ListN.{replicate}
+use Rattle.std.specs.Prelude.{◌≡◌, refl, List, [], ◌∷◌, map, ℕ, replicate, None, Option, Some}
 use Rattle.script.specs.Bytes.{letter_L}
-use Rattle.script.specs.Numbers.{value_of, with_digit, number_from, key_of, number_of}
-use Rattle.script.specs.Lines.{key_and_value_of, tagged_of, command_of}
+use Rattle.script.specs.Lines.{command_of}
 use Rattle.script.specs.declared.lines.Command.{Command}
-use Rattle.script.specs.declared.lines.Command.TheVariants.{Put, Delete, Get, Listing, Cut, Wrong}
+use Rattle.script.specs.declared.lines.Command.TheVariants.{Put, Delete, Get, Listing, Cut}
 
 -- the bytes of a text in ASCII
 abbrev pub bytes : String → List ℕ
 bytes []ˢ = []
 bytes (c ∷ˢ text) = code c ∷ bytes text
 
-abbrev commands : List String → List Command
+abbrev commands : List String → List (Option Command)
 commands lines = map (λ (line : String). command_of (bytes line)) lines
 
 right_lines : commands (
@@ -32,8 +28,8 @@ right_lines : commands (
     ∷ "P\t0000000000000000\t0"
     ∷ []
     )
-    ≡ Put 0x200 1 ∷ Get 0x20f ∷ Delete 0x222 ∷ Listing ∷ Cut 20 ∷ Cut 0 ∷ Cut 21 ∷ Put 0xffff_ffff_ffff_ffff 0xffff_ffff_ffff_ffff ∷ Put 0 0 ∷ []
-unfolding command_of tagged_of key_and_value_of key_of number_of number_from with_digit value_of
+    ≡ map (λ (c : Command). Some c) (Put 0x200 1 ∷ Get 0x20f ∷ Delete 0x222 ∷ Listing ∷ Cut 20 ∷ Cut 0 ∷ Cut 21 ∷ Put 0xffff_ffff_ffff_ffff 0xffff_ffff_ffff_ffff ∷ Put 0 0 ∷ [])
+unfolding command_of
 right_lines = refl
 
 wrong : List String
@@ -67,11 +63,11 @@ wrong =
     ∷ ""
     ∷ []
 
-wrong_lines : commands wrong ≡ replicate 22 Wrong
-unfolding wrong command_of tagged_of key_and_value_of key_of number_of number_from with_digit value_of
+wrong_lines : commands wrong ≡ replicate 22 None
+unfolding wrong command_of
 wrong_lines = refl
 
 -- a line over 63 bytes
-overlong_line : command_of (replicate 64 letter_L) ≡ Wrong
+overlong_line : command_of (replicate 64 letter_L) ≡ None
 unfolding command_of
 overlong_line = refl

@@ -5,6 +5,6 @@ mod input;
 mod lines;
 mod turns;
 
-pub use input::{Reader, Taken};
+pub use input::Reader;
 pub use lines::{Command, command_of};
-pub use turns::{Pending, Shell, Step, Turn};
+pub use turns::{Shell, Turn};

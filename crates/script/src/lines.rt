@@ -1,7 +1,9 @@
 // Bytes to lines, and a line to a command.
-ghost use Rattle.std.specs.Prelude.{◌≡◌, ◌<◌, take};
-ghost use Rattle.script.specs.Numbers.{value_of, with_digit, number_from, key_of, ill_begun, number_of};
-ghost use Rattle.script.specs.Lines.{put_of, delete_of, get_of, cut_of, key_and_value_of, tagged_of, command_of, feeding, fed_of, rest_of};
+ghost use Rattle.std.specs.Prelude.{◌≡◌, ◌≤◌, ◌↔◌, IsTrue, List, [], ℕ, length, take};
+ghost use Rattle.script.specs.Numbers.{value_of, with_digit, number_from, key_of, number_of};
+ghost use Rattle.script.specs.Lines.{key_and_value_of, tagged_of, command_of, kept_of};
+
+use std::marker::Model;
 
 // A line's command.
 #[derive(Clone, Copy)]
@@ -11,25 +13,13 @@ pub enum Command {
     Get(u64),
     Listing,
     Cut(usize),
-    Wrong,
-}
-
-// What a field says as a number.
-#[derive(Clone, Copy)]
-pub enum Number {
-    Is(u64),
-    Not,
-}
-
-// What a byte does to the line that is being gathered: it grows to so many bytes, or is whole.
-#[derive(Clone, Copy)]
-pub enum Fed {
-    More(usize),
-    Whole(usize),
 }
 
 // Bytes of a line, at most.
 const LONGEST: usize = 63;
+
+// Bytes of a line that are kept: one more than a right line can have, so that a longer one is seen to be too long.
+const LINE: usize = 64;
 
 // Stores after which a cut comes, at most.
 const CUT: u64 = 21;
@@ -37,209 +27,154 @@ const CUT: u64 = 21;
 // Digits of a key.
 const KEY: usize = 16;
 
-// The digit that a byte is, 0 to 9 or a to f, and 16 for any other byte.
-fn value(byte: u8) -> u64
+// The digit that a byte is, 0 to 9 or a to f.
+fn value(byte: u8) -> Option<u64>
     ensures { result ≡ value_of byte }
 {
     match byte {
-        b'0'..=b'9' => (byte - b'0') as u64,
-        b'a'..=b'f' => (byte - b'a' + 10) as u64,
-        _ => 16,
+        b'0'..=b'9' => Some(u64::from(byte - b'0')),
+        b'a'..=b'f' => Some(u64::from(byte - b'a' + 10)),
+        _ => None,
     }
 }
 
 // The number with one digit more.
-fn with_digit(base: u64, x: u64, byte: u8) -> Number
-    requires { 0 < base }
+fn with_digit(base: u64, x: u64, byte: u8) -> Option<u64>
     ensures { result ≡ with_digit base x byte }
 {
-    let d = value(byte);
-    if base <= d {
-        return Number::Not;
+    let digit = value(byte)?;
+    if base <= digit {
+        return None;
     }
-    if (u64::MAX - d) / base < x {
-        return Number::Not;
-    }
-    Number::Is(x * base + d)
+    x.checked_mul(base)?.checked_add(digit)
 }
 
 // The number that digits say, the highest first.
-fn number_from(base: u64, digits: &[u8]) -> Number
-    requires { 0 < base }
+fn number_from(base: u64, digits: &[u8]) -> Option<u64>
     ensures { result ≡ number_from base 0 digits.now }
 {
-    let mut x: u64 = 0;
-    let mut i = 0;
-    while i < digits.len() {
-        let Number::Is(y) = with_digit(base, x, digits[i]) else {
-            return Number::Not;
-        };
-        x = y;
-        i += 1;
+    let mut x = 0;
+    for byte in digits {
+        x = with_digit(base, x, *byte)?;
     }
-    Number::Is(x)
+    Some(x)
 }
 
 // A key: sixteen lower-case hex digits.
-fn key(field: &[u8]) -> Number
+fn key(field: &[u8]) -> Option<u64>
     ensures { result ≡ key_of field.now }
 {
     if field.len() != KEY {
-        return Number::Not;
+        return None;
     }
     number_from(16, field)
 }
 
-// No digit, or a leading zero.
-fn ill_begun(field: &[u8]) -> bool
-    ensures { result ≡ ill_begun field.now }
-{
-    if field.len() == 0 {
-        return true;
-    }
-    if field.len() == 1 {
-        return false;
-    }
-    field[0] == b'0'
-}
-
 // A decimal number with no leading zeros.
-fn decimal(field: &[u8]) -> Number
+fn decimal(field: &[u8]) -> Option<u64>
     ensures { result ≡ number_of field.now }
 {
-    if ill_begun(field) {
-        return Number::Not;
-    }
-    number_from(10, field)
-}
-
-// A put's command.
-fn put(key: Number, value: Number) -> Command
-    ensures { result ≡ put_of key value }
-{
-    let Number::Is(k) = key else {
-        return Command::Wrong;
-    };
-    let Number::Is(v) = value else {
-        return Command::Wrong;
-    };
-    Command::Put(k, v)
-}
-
-// A delete's command.
-fn delete(key: Number) -> Command
-    ensures { result ≡ delete_of key }
-{
-    let Number::Is(k) = key else {
-        return Command::Wrong;
-    };
-    Command::Delete(k)
-}
-
-// A look-up's command.
-fn get(key: Number) -> Command
-    ensures { result ≡ get_of key }
-{
-    let Number::Is(k) = key else {
-        return Command::Wrong;
-    };
-    Command::Get(k)
-}
-
-// A cut's command.
-fn cut(stores: Number) -> Command
-    ensures { result ≡ cut_of stores }
-{
-    let Number::Is(n) = stores else {
-        return Command::Wrong;
-    };
-    if n <= CUT {
-        Command::Cut(n as usize)
-    } else {
-        Command::Wrong
+    match field {
+        [] | [b'0', _, ..] => None,
+        _ => number_from(10, field),
     }
 }
 
 // What stands after P and a tab: a key, a tab and a value.
-fn key_and_value(rest: &[u8]) -> Command
+fn key_and_value(rest: &[u8]) -> Option<Command>
     ensures { result ≡ key_and_value_of rest.now }
 {
-    if rest.len() <= KEY {
-        return Command::Wrong;
-    }
-    if rest[KEY] != b'\t' {
-        return Command::Wrong;
-    }
-    put(key(&rest[0..KEY]), decimal(&rest[KEY + 1..]))
+    let (key_field, rest) = rest.split_at_checked(KEY)?;
+    let [b'\t', value_field @ ..] = rest else {
+        return None;
+    };
+    Some(Command::Put(key(key_field)?, decimal(value_field)?))
 }
 
 // What stands after a tag and a tab.
-fn tagged(tag: u8, rest: &[u8]) -> Command
+fn tagged(tag: u8, rest: &[u8]) -> Option<Command>
     ensures { result ≡ tagged_of tag rest.now }
 {
     match tag {
         b'P' => key_and_value(rest),
-        b'D' => delete(key(rest)),
-        b'G' => get(key(rest)),
-        b'C' => cut(decimal(rest)),
-        _ => Command::Wrong,
+        b'D' => Some(Command::Delete(key(rest)?)),
+        b'G' => Some(Command::Get(key(rest)?)),
+        b'C' => match decimal(rest)? {
+            stores @ 0..=CUT => Some(Command::Cut(stores as usize)),
+            _ => None,
+        },
+        _ => None,
     }
 }
 
-// The command of a line, which comes without its newline.
-pub fn command_of(line: &[u8]) -> Command
+// The command of a line, which comes without its newline. A wrong line has none.
+#[tactic(auto, unfolding(crate::specs::Lines::command_of))]
+pub fn command_of(line: &[u8]) -> Option<Command>
     ensures { result ≡ command_of line.now }
 {
     if LONGEST < line.len() {
-        return Command::Wrong;
+        return None;
     }
-    if line.len() == 0 {
-        return Command::Wrong;
+    match line {
+        [b'L'] => Some(Command::Listing),
+        [tag, b'\t', rest @ ..] => tagged(*tag, rest),
+        _ => None,
     }
-    let tag = line[0];
-    if line.len() == 1 {
-        if tag == b'L' {
-            return Command::Listing;
+}
+
+// The line that is being gathered. Clauses see its bytes.
+#[derive(Drop)]
+pub struct Line {
+    bytes: [u8; LINE],
+    len: usize,
+}
+
+impl Model for Line {
+    ghost Value = { List ℕ };
+
+    ghost view = { λ line. take line.len line.bytes };
+
+    ghost invariant = { λ line. line.len ≤ length line.bytes };
+}
+
+impl Line {
+    // A line with no byte.
+    pub fn new() -> Self
+        ensures { result ≡ [] }
+    {
+        Line {
+            bytes: [0; LINE],
+            len: 0,
         }
-        return Command::Wrong;
     }
-    if line[1] != b'\t' {
-        return Command::Wrong;
-    }
-    tagged(tag, &line[2..])
-}
 
-// The command of a buffer's first bytes, so many.
-pub fn gathered(line: &[u8], len: usize) -> Command
-    ensures { result ≡ command_of (take len line.now) }
-{
-    if line.len() <= len {
-        return command_of(line);
+    pub fn is_empty(&self) -> bool
+        ensures { IsTrue result ↔ (self.now ≡ []) }
+    {
+        self.len == 0
     }
-    command_of(&line[0..len])
-}
 
-// Takes one byte of the input into the line's buffer, which holds the line's first bytes, so many.
-pub fn feed(line: &mut [u8], len: usize, byte: u8) -> Fed
-    ensures { feeding result line.new ≡ fed_of len byte line.old }
-{
-    if byte == b'\n' {
-        return Fed::Whole(len);
+    // The bytes so far.
+    pub fn as_slice(&self) -> &[u8]
+        ensures { result.now ≡ self.now }
+    {
+        &self.bytes[..self.len]
     }
-    if len < line.len() {
-        line[len] = byte;
-        return Fed::More(len + 1);
-    }
-    Fed::More(len)
-}
 
-// Takes the end of the input, with so many bytes of a line before it.
-pub fn rest(len: usize) -> Fed
-    ensures { result ≡ rest_of len }
-{
-    if len == 0 {
-        Fed::More(0)
-    } else {
-        Fed::Whole(len)
+    // One byte more; it is dropped where there is no room.
+    pub fn push(&mut self, byte: u8)
+        ensures { self.new ≡ kept_of self.old byte }
+    {
+        if self.len < LINE {
+            self.bytes[self.len] = byte;
+            self.len += 1;
+        }
+    }
+
+    // The next line begins.
+    pub fn clear(&mut self)
+        ensures { self.new ≡ [] }
+    {
+        self.len = 0;
     }
 }

@@ -1,45 +1,26 @@
 // Runs the scripts that standard input names, each with the file of its answers, and says whether `names` answers so.
 #![tactic(auto)]
 
-ghost use Rattle.std.specs.Prelude.{◌≤◌, length, IfOk};
-
+use arrayvec::ArrayVec;
+use session::Session;
 use std::fs::File;
 use std::io;
-use std::io::{Read, Stdout};
+use std::io::Read;
 use std::rt::Files;
 use std::str::from_utf8;
-use stream::{End, Sink};
-
-// Where the line that begins at `from` ends: at its newline, or with the text.
-fn line_end(text: &[u8], from: usize) -> usize
-    requires { from ≤ length text.now }
-    ensures { (from ≤ result) × (result ≤ length text.now) }
-{
-    let mut end = from;
-    while end < text.len() {
-        if text[end] == b'\n' {
-            return end;
-        }
-        end += 1;
-    }
-    end
-}
-
-fn say(rt: &impl Print, script: &str, what: &str) -> io::Result<()> {
-    println!(rt; "{script}{what}")
-}
+use stream::{Expected, Failure};
 
 // Runs a script on a new pool, and holds its answers against those expected.
 fn run<F: Read + Drop>(rt: &impl Print, script: &str, source: F, expected: F) -> io::Result<()> {
-    let mut pool = [0u64; 4849];
-    let mut map = [0u8; 511];
-    session::start(&mut pool, &mut map);
-    let sink = Sink::<Stdout, F>::Compare(expected);
-    match stream::play(source, sink, &mut pool, &mut map) {
-        End::Whole => say(rt, script, " answers as expected"),
-        End::NotRead(_) => say(rt, script, " is not read"),
-        End::NotTaken(_) => say(rt, script, " does not answer as expected"),
-    }
+    let mut pool = [0; 4849];
+    let mut map = [0; 511];
+    let session = Session::start(&mut pool, &mut map);
+    let what = match stream::play(source, Expected(expected), session) {
+        Ok(()) => "answers as expected",
+        Err(Failure::NotRead(_)) => "is not read",
+        Err(Failure::NotTaken(_)) => "does not answer as expected",
+    };
+    println!(rt; "{script} {what}")
 }
 
 fn run_named(rt: &(impl Files + Print + Eprint), script: &[u8], answers: &[u8]) -> io::Result<()> {
@@ -59,39 +40,15 @@ fn run_named(rt: &(impl Files + Print + Eprint), script: &[u8], answers: &[u8]) 
 
 // The lines of the list: a script, and the file of its answers.
 fn run_all(rt: &(impl Files + Print + Eprint), list: &[u8]) -> io::Result<()> {
-    let mut from = 0;
-    while from < list.len() {
-        let end = line_end(list, from);
-        if end == list.len() {
-            return Ok(());
-        }
-        let last = line_end(list, end + 1);
-        run_named(rt, &list[from..end], &list[end + 1..last])?;
-        if last == list.len() {
-            return Ok(());
-        }
-        from = last + 1;
+    let mut lines = list.split(|byte| *byte == b'\n');
+    while let (Some(script), Some(answers)) = (lines.next(), lines.next()) {
+        run_named(rt, script, answers)?;
     }
     Ok(())
 }
 
-// Reads until the buffer is full or the input ends. How many bytes were read.
-fn read_full(source: &mut impl Read, buf: &mut [u8]) -> io::Result<usize>
-    ensures { IfOk result (λ n. n ≤ length buf.new) }
-{
-    let mut done = 0;
-    while done < buf.len() {
-        let n = source.read(&mut buf[done..])?;
-        if n == 0 {
-            break;
-        }
-        done += n;
-    }
-    Ok(done)
-}
-
 fn main(rt: HostRuntime) -> io::Result<()> {
-    let mut list = [0u8; 4096];
-    let n = read_full(&mut rt.stdin(), &mut list)?;
-    run_all(&rt, &list[0..n])
+    let mut list = ArrayVec::<u8, 4096>::new();
+    io::copy(&mut rt.stdin().take(4096), &mut list)?;
+    run_all(&rt, &list)
 }

@@ -1,4 +1,3 @@
 pub mod Runs
 pub mod Texts
 pub mod Prints
-pub mod Starts

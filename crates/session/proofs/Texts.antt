@@ -1,16 +1,15 @@
 -- How long a text is: an answer's at most 86 bytes, and a turn's at most 10,263.
 -- Assumes nothing.
-use mathlib.Core.Path.{◌≡◌, refl, sym, ap, ◌∙◌}
-use mathlib.Core.List.{List, [], ◌∷◌, ◌++◌, append_assoc, append-nil}
-use Prim.Native.Nat.{ℕ, zero, suc, ◌+◌, ◌*◌, ◌/◌, ◌%◌, ◌≤◌, min}
-use native.Mathlib.Omega.{arith}
-use lib.ListN.{length, get_or, replicate, length-append, length-replicate}
+use Rattle.std.proofs.Common.{◌≡◌, refl, ap, ◌∙◌, ℕ, zero, suc, ◌+◌, ◌*◌, ◌/◌, ◌%◌, ◌≤◌, min, List, [], ◌∷◌, ◌++◌, length, get_or, replicate, arith, append-nil, length-append}
+use Rattle.std.proofs.lemmas.List.{length-replicate}
+use Rattle.std.proofs.lemmas.Grind.{flat_map-append}
 use Rattle.listing.proofs.Answers.{Lists, size, buffers, damage, done, list_answers_lem}
 use Rattle.listing.specs.Listings.{Shown, list_of}
 use Rattle.script.specs.declared.turns.Turn.{Turn}
 use Rattle.script.specs.declared.turns.Turn.TheVariants.{Put, Delete, Get, Listing, CutPut, CutDelete, Nothing, Wrong}
 use Rattle.answers.specs.Numbers.{glyph_of, last_digits, places_in, decimal_of, hex_of}
-use Rattle.answers.specs.Answers.{fields_of, line_end, text_of}
+use Rattle.refusals.specs.Refusals.{number_in}
+use Rattle.answers.specs.Answers.{fields_of, line_end, value_in, text_of}
 use Rattle.answers.specs.declared.Answer.{Answer}
 use Rattle.answers.specs.declared.Answer.TheVariants as print
 use Rattle.answers.proofs.Texts.{places_le}
@@ -37,35 +36,27 @@ entry_short key value =
 -- an answer that is no entry
 pub text_short : (a : Answer) → length (text_of a) ≤ 86
 unfolding text_of
-text_short (print.Put number stores) = omega (arith, fields_short (number ∷ stores ∷ []) line_end)
-text_short (print.Delete number stores) = omega (arith, fields_short (number ∷ stores ∷ []) line_end)
-text_short (print.Get number value nodes) = omega (arith, fields_short (number ∷ value ∷ nodes ∷ []) line_end)
+text_short (print.Put stores) = omega (arith, fields_short (number_in stores ∷ value_in stores ∷ []) line_end)
+text_short (print.Delete stores) = omega (arith, fields_short (number_in stores ∷ value_in stores ∷ []) line_end)
+text_short (print.Get value nodes) = omega (arith, fields_short (number_in value ∷ value_in value ∷ nodes ∷ []) line_end)
 text_short (print.Entry key value) = omega (arith, entry_short key value)
 text_short (print.End count) = omega (arith, fields_short (count ∷ []) line_end)
-text_short (print.Cut number stores keys headers) = omega (arith, fields_short (number ∷ stores ∷ keys ∷ headers ∷ []) line_end)
+text_short (print.Cut planned stores keys headers) = omega (arith, fields_short (number_in planned ∷ stores ∷ keys ∷ headers ∷ []) line_end)
 text_short (print.Wrong line) = omega (arith, fields_short (line ∷ []) line_end)
 
 end_short : (count : ℕ) → length (text_of (print.End count)) ≤ 23
 unfolding text_of
 end_short count = omega (arith, fields_short (count ∷ []) line_end)
 
-pub texts_append : (answers more : List Answer) → texts_of (answers ++ more) ≡ texts_of answers ++ texts_of more
-unfolding texts_of
-texts_append [] more = refl
-texts_append (a ∷ answers) more =
-    ap (λ (t : List ℕ). text_of a ++ t) (texts_append answers more)
-    ∙ sym (append_assoc (text_of a) (texts_of answers) (texts_of more))
-
 one_text : (a : Answer) → length (texts_of (a ∷ [])) ≡ length (text_of a)
-unfolding texts_of
 one_text a = ap length (append-nil (text_of a))
 
 more_text : (answers : List Answer) (a : Answer) → length (texts_of (answers ++ (a ∷ []))) ≡ length (texts_of answers) + length (text_of a)
 more_text answers a =
-    ap length (texts_append answers (a ∷ [])) ∙ length-append (texts_of answers) (texts_of (a ∷ [])) ∙ ap (λ (n : ℕ). length (texts_of answers) + n) (one_text a)
+    ap length (flat_map-append text_of answers (a ∷ [])) ∙ length-append (texts_of answers) (texts_of (a ∷ [])) ∙ ap (λ (n : ℕ). length (texts_of answers) + n) (one_text a)
 
 entries_short : (n : ℕ) (keys values : List ℕ) → length (texts_of (entries n keys values)) ≤ 40 * n
-unfolding entries texts_of
+unfolding entries
 entries_short zero keys values = omega arith
 entries_short (suc n) keys values =
     let k : ℕ = get_or keys n 0 in
@@ -99,7 +90,7 @@ list_short pool =
     )
 
 pub turn_short : (t : Turn) (m : Memory) → length (texts_of (answers_of t m)) ≤ most
-unfolding answers_of texts_of
+unfolding answers_of
 turn_short (Put key value) m = one_short _
 turn_short (Delete key) m = one_short _
 turn_short (Get key) m = one_short _

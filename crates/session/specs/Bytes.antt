@@ -1,48 +1,56 @@
 -- A session, byte by byte of its input.
 -- Assumes nothing.
-use Rattle.std.specs.Prelude.{Bool, List, [], ◌∷◌, ℕ, ◌+◌, leb, length}
+use Rattle.std.specs.Prelude.{Bool, List, [], ◌∷◌, ℕ, ◌+◌, leb}
 use Rattle.digits.specs.Choice.{pick}
-use Rattle.script.specs.Input.{Taking, taken_of, end_of}
+use Rattle.script.specs.Input.{Taken, taken_of, end_of}
 use Rattle.script.specs.declared.input.Reader.{Reader}
 use Rattle.script.specs.declared.turns.Turn.{Turn}
 use Rattle.answers.specs.Answers.{Page}
 use Rattle.answers.specs.declared.Answer.{Answer}
-use Rattle.turns.specs.Turns.{Memory, memory, leaves, answers_of, printed, Acted, turned}
+use Rattle.turns.specs.Turns.{Memory, leaves, answers_of, printed}
 
--- all that a session holds: the reader, the line that is being gathered, and what the turns act on
+-- all that a session holds: the reader, and what the turns act on
 pub record Session : Type 0 where
   pub reader : Reader
-  pub line : List ℕ
   pub memory : Memory
 
+abbrev pub session : Reader → Memory → Session
+session r m = record { reader = r; memory = m }
+
 -- what a byte of the input does
-abbrev pub taken : ℕ → Session → Taking
-taken byte s = taken_of s.reader byte s.line
+abbrev pub taken : ℕ → Session → Taken
+taken byte s = taken_of s.reader byte
 
 abbrev pub after_byte : ℕ → Session → Session
-after_byte byte s =
-    record { reader = (taken byte s).taken.reader; line = (taken byte s).left; memory = leaves (taken byte s).taken.turn s.memory }
+after_byte byte s = session (taken byte s).reader (leaves (taken byte s).turn s.memory)
 
 abbrev pub said_at : ℕ → Session → List Answer
-said_at byte s = answers_of (taken byte s).taken.turn s.memory
+said_at byte s = answers_of (taken byte s).turn s.memory
 
 -- what the end of the input does
 abbrev pub last_turn : Session → Turn
-last_turn s = (end_of s.reader s.line).turn
+last_turn s = (end_of s.reader).turn
+
+abbrev pub after_end : Session → Session
+after_end s = session (end_of s.reader).reader (leaves (last_turn s) s.memory)
+
+-- "The last line may lack its newline."
+abbrev pub said_last : Session → List Answer
+said_last s = answers_of (last_turn s) s.memory
 
 -- a session, and the page that its answers go onto
 pub record Stream : Type 0 where
   pub session : Session
   pub page : Page
 
-abbrev pub stream : Reader → List ℕ → List ℕ → List ℕ → Page → Stream
-stream r line pool map p = record { session = record { reader = r; line = line; memory = memory pool map }; page = p }
+abbrev pub stream : Session → Page → Stream
+stream s p = record { session = s; page = p }
 
 abbrev pub on_byte : ℕ → Stream → Stream
-on_byte byte s = record { session = after_byte byte s.session; page = printed (said_at byte s.session) s.page }
+on_byte byte s = stream (after_byte byte s.session) (printed (said_at byte s.session) s.page)
 
-abbrev pub on_end : Stream → Acted
-on_end s = turned (last_turn s.session) s.session.memory s.page
+abbrev pub on_end : Stream → Stream
+on_end s = stream (after_end s.session) (printed (said_last s.session) s.page)
 
 -- bytes that a turn prints, at most: 256 entries of 40 bytes each, and their count, which is 23
 abbrev pub most : ℕ
@@ -50,7 +58,7 @@ most = 10263
 
 -- whether a page has room for what any turn prints
 abbrev pub roomy : Page → Bool
-roomy p = leb (p.end + most) (length p.bytes)
+roomy p = leb most p.room
 
 -- how many bytes were taken, and the stream after them
 pub record Going : Type 0 where

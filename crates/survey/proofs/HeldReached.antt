@@ -1,7 +1,7 @@
 -- What is reached in a pool that holds a tree: the references at the tree's places, above its keys, and its slots.
 -- Rests on what references come to, and on places. Assumes nothing.
+use Rattle.std.specs.Prelude.{Option, None, Some}
 use mathlib.Core.Path.{◌≡◌, refl, sym, ap, ◌∙◌, subst}
-use mathlib.Core.Option.{Option, none, some}
 use mathlib.Core.List.{List, [], ◌∷◌, ◌++◌}
 use Prim.Native.Nat.{ℕ, ◌+◌, ◌-◌, ◌%◌, ◌^◌, ◌≤◌, ◌<◌}
 use native.Mathlib.Omega.{arith}
@@ -38,28 +38,28 @@ key_agrees w q (node x b s kids) k g h =
 
 -- the slot of the tree's root
 abbrev pub root_slot : Tree ℕ → Option ℕ
-root_slot empty = none
-root_slot (leaf x k v) = some x
-root_slot (node x b s kids) = some x
+root_slot empty = None
+root_slot (leaf x k v) = Some x
+root_slot (node x b s kids) = Some x
 
-slot_counts : (x : ℕ) (t : Tree ℕ) → root_slot t ≡ some x → 0 < mult x t
+slot_counts : (x : ℕ) (t : Tree ℕ) → root_slot t ≡ Some x → 0 < mult x t
 unfolding mult
 slot_counts x empty e = let o : ◌≡◌ {A = ℕ} 0 1 = cc in absurd (omega arith)
 slot_counts x (leaf y k v) e = let z : y ≡ x = cc in rw (z, one_at x) (omega arith)
 slot_counts x (node y b s kids) e = let z : y ≡ x = cc in rw (z, one_at x) (omega arith)
 
-pub place_counts : (x : ℕ) (t : Tree ℕ) (π : List ℕ) → On π t → root_slot (sub π t) ≡ some x → 0 < mult x t
+pub place_counts : (x : ℕ) (t : Tree ℕ) (π : List ℕ) → On π t → root_slot (sub π t) ≡ Some x → 0 < mult x t
 place_counts x t π o a = omega (arith, sub_mult π t x o, slot_counts x (sub π t) a)
 
 -- the root's slot, counted once, is no child's
 root_alone : (x y b s : ℕ) (kids : ℕ → Tree ℕ) (c : ℕ) (π : List ℕ) → mult x (node y b s kids) ≤ 1 → y ≡ x → c < 16 → On π (kids c)
-    → root_slot (sub π (kids c)) ≡ some x → ⊥
+    → root_slot (sub π (kids c)) ≡ Some x → ⊥
 unfolding mult
 root_alone x y b s kids c π m e l o a =
     omega (arith, one_at x, ap (λ (i : ℕ). one (eqb x i)) e, sum_has 16 (λ c. mult x (kids c)) c l, place_counts x (kids c) π o a)
 
 -- a slot that is counted once is that of one place
-pub one_place : (x : ℕ) (t : Tree ℕ) (π ρ : List ℕ) → mult x t ≤ 1 → On π t → On ρ t → root_slot (sub π t) ≡ some x → root_slot (sub ρ t) ≡ some x → π ≡ ρ
+pub one_place : (x : ℕ) (t : Tree ℕ) (π ρ : List ℕ) → mult x t ≤ 1 → On π t → On ρ t → root_slot (sub π t) ≡ Some x → root_slot (sub ρ t) ≡ Some x → π ≡ ρ
 unfolding mult sub
 one_place x t π ρ m whole whole a b = refl
 one_place x t π ρ m whole (down {c} {x = y} {b = h} {s} {kids} {π = σ} l o) a b = absurd (root_alone x y h s kids c σ m (cc) l o b)
@@ -69,7 +69,7 @@ one_place x (node y h s kids) (c ∷ π) (d ∷ ρ) m (down l o) (down l' o') a 
     count : ℕ → ℕ
     count c = mult x (kids c)
 
-    go : Same? d c → ((ρ : List ℕ) → mult x (kids c) ≤ 1 → On ρ (kids c) → root_slot (sub π (kids c)) ≡ some x → root_slot (sub ρ (kids c)) ≡ some x → π ≡ ρ)
+    go : Same? d c → ((ρ : List ℕ) → mult x (kids c) ≤ 1 → On ρ (kids c) → root_slot (sub π (kids c)) ≡ Some x → root_slot (sub ρ (kids c)) ≡ Some x → π ≡ ρ)
         → ◌≡◌ {A = List ℕ} (c ∷ π) (d ∷ ρ)
     go (same e z) ih =
         let π-is : π ≡ ρ = ih ρ (omega (arith, sum_has 16 count c l)) (rw e at o') a (rw e at b) in
@@ -130,7 +130,7 @@ module _ (pool : List ℕ) (n : ℕ) where
   pub slot_is : (w r : ℕ) (t : Tree ℕ) → Holds (base 16 n) (mem pool) w r t → slot_of n (ref_of n r) ≡ root_slot t
   slot_is w r empty h = rw (held_empty pool n w r h).1
   slot_is w r (leaf x k v) h = rw (held_leaf pool n w r x k v h).ref
-  slot_is w r (node x b s kids) h = rw (held_node pool n w r x b s kids h).refers (ap some (omega (arith, held_slot pool n w r x b s kids h)))
+  slot_is w r (node x b s kids) h = rw (held_node pool n w r x b s kids h).refers (ap Some (omega (arith, held_slot pool n w r x b s kids h)))
 
   -- the keys below are the tree's
   pub below_key : {i k : ℕ} → Below pool n i k → (w : ℕ) (t : Tree ℕ) → Holds (base 16 n) (mem pool) w (word_at pool i) t → KeyIn k t
@@ -152,14 +152,14 @@ module _ (pool : List ℕ) (n : ℕ) where
   counted_in_use : (x i w : ℕ) (t : Tree ℕ) → Reached pool n i w → Holds (base 16 n) (mem pool) w (word_at pool i) t → 0 < mult x t → InUse pool n x
   unfolding mult
   counted_in_use x i w empty R h p = absurd (omega arith)
-  counted_in_use x i w (leaf y k v) R h p = record { i = i; w = w; reached = R; slot = slot_is w (word_at pool i) (leaf y k v) h ∙ ap some (sym (one_is x y p)) }
+  counted_in_use x i w (leaf y k v) R h p = record { i = i; w = w; reached = R; slot = slot_is w (word_at pool i) (leaf y k v) h ∙ ap Some (sym (one_is x y p)) }
   counted_in_use x i w (node y b s kids) R h p = go (same? x y) (λ c. counted_in_use x (child_word n (y - n) c) (b + 1) (kids c))
     where
       go : Same? x y
           → ((c : ℕ) → Reached pool n (child_word n (y - n) c) (b + 1) → Holds (base 16 n) (mem pool) (b + 1) (child_at pool n (y - n) c) (kids c) → 0 < mult x (kids c)
           → InUse pool n x)
           → InUse pool n x
-      go (same e z) ih = record { i = i; w = w; reached = R; slot = slot_is w (word_at pool i) (node y b s kids) h ∙ ap some (sym e) }
+      go (same e z) ih = record { i = i; w = w; reached = R; slot = slot_is w (word_at pool i) (node y b s kids) h ∙ ap Some (sym e) }
       go (other e z) ih =
           let (c, l, o) = sum_some 16 (λ c. mult x (kids c)) (omega (arith, one_off x y e)) in
           ih c (kid_reached i w y b s kids R h c l) (held_child pool n w (word_at pool i) y b s kids c h l) o
@@ -176,7 +176,7 @@ module _ (pool : List ℕ) (n : ℕ) where
     pub place_means : {i w : ℕ} {x : Ref} (P : Place n t i w) → at pool n i ≡ x → Means w (sub P.π t) x
     place_means {i} {w} P e = subst (Means w (sub P.π t)) e (means w (word_at pool i) (sub P.π t) (place_holds P))
 
-    pub place_slot : {i w x : ℕ} (P : Place n t i w) → slot_of n (at pool n i) ≡ some x → root_slot (sub P.π t) ≡ some x
+    pub place_slot : {i w x : ℕ} (P : Place n t i w) → slot_of n (at pool n i) ≡ Some x → root_slot (sub P.π t) ≡ Some x
     place_slot {i} {w} P e = sym (slot_is w (word_at pool i) (sub P.π t) (place_holds P)) ∙ e
 
     -- everything reached is at a place

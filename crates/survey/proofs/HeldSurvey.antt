@@ -1,5 +1,6 @@
 -- A pool that holds a tree is surveyed as sound, and the marks are the tree's. Rests on what references come to, and on marks.
 -- Assumes nothing.
+use Rattle.std.specs.Prelude.{Some}
 use mathlib.Core.Path.{◌≡◌, refl, sym, ap, ◌∙◌, subst}
 use mathlib.Core.Bool.{Bool, true, false, not}
 use mathlib.Core.Logic.{◌⊎◌, inl, inr}
@@ -26,13 +27,10 @@ use Rattle.tree.proofs.Basics.{Same?, same, other, same?, less?, last?, true_not
 use Rattle.tree.proofs.Near.{filled_is, not_filled, of_two}
 use Rattle.layout.specs.Layout.{base, Held}
 use Rattle.walk.specs.Walks.{children_of}
-use Rattle.walk.specs.declared.Head.TheVariants.{Branch}
 use Rattle.held.specs.Ways.{dig, mem}
 use Rattle.held.proofs.Heads.{Shown, Headed, held_empty, held_leaf, held_head, held_node, held_slot, held_child, held_zero}
 use Rattle.held.proofs.Lowest.{children_held}
-use Rattle.survey.specs.declared.Census.{Census}
-use Rattle.survey.specs.declared.Gather.{Gather}
-use Rattle.survey.specs.Surveys.{Survey, survey, census, leaf_met, join_of, Gathered, gathered, gather, kid_of, head_judged, closed}
+use Rattle.survey.specs.Surveys.{Census, Gather, Survey, survey, census, leaf_met, join_of, Gathered, gathered, gather, kid_of, head_judged, closed}
 use Rattle.survey.specs.Surveys.{node_met, ref_met, survey_from, survey_of}
 use Rattle.survey.proofs.SoundTree.{meeting, survey_meets}
 use Rattle.survey.proofs.TreeMarks.{marks_of, marks_off, upto_off}
@@ -207,7 +205,7 @@ module _ (pool : List ℕ) (n : ℕ) where
   node_fits : (go : ℕ → ℕ → Survey → Survey) (w r x b s : ℕ) (q : ℕ → ℕ) (kids : ℕ → Tree ℕ) (v : Survey) → Holds (base 16 n) (mem pool) w r (node x b s kids)
       → Good dig 16 w q (node x b s kids) → ((y : ℕ) → mult y (node x b s kids) ≤ 1) → Surveys go (b + 1) → Fresh v.marks (node x b s kids)
       → v.census.sound ≡ true
-      → Fits w q (node x b s kids) v (node_met go pool n w (x - n) (Branch b) v)
+      → Fits w q (node x b s kids) v (node_met go pool n w (x - n) (Some b) v)
   unfolding Good mult
   node_fits go w r x b s q kids v h g once fits fresh on =
       let back : n + (x - n) ≡ x = omega (arith, held_slot pool n w r x b s kids h) in

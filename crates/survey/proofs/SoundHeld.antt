@@ -1,5 +1,6 @@
 -- A pool is sound just where it holds a tree: clause by clause the tree's places are sound, and what is reached from the root of a sound pool is a tree.
 -- Rests on what is reached in a pool that holds a tree. Assumes nothing.
+use Rattle.std.specs.Prelude.{Some}
 use mathlib.Core.Path.{◌≡◌, refl, sym, ap, ◌∙◌, subst}
 use mathlib.Core.List.{List}
 use Prim.Native.Nat.{ℕ, zero, suc, ◌+◌, ◌-◌, ◌%◌, ◌^◌, ◌≤◌, ◌<◌}
@@ -10,7 +11,6 @@ use Rattle.digits.proofs.Headers.{stored_cong}
 use Rattle.pool.specs.Sizes.{capacity_of}
 use Rattle.pool.specs.Places.{word_at, key_at, value_at, header_at, child_at, child_word}
 use Rattle.pool.specs.Refs.{ref_of}
-use Rattle.pool.specs.declared.Size.TheVariants.{Holds as Capacity}
 use Rattle.pool.specs.declared.Ref.{Ref}
 use Rattle.pool.specs.declared.Ref.TheVariants.{Empty, Leaf, Node, Bad}
 use Rattle.tree.specs.Tree.{Tree, empty, leaf, node, upd, Filled, Two, sub, dep, Stands, pre, Agree, Good}
@@ -30,7 +30,7 @@ use Rattle.survey.proofs.SoundTree.{choose, chosen}
 use Rattle.survey.proofs.HeldReached.{KeyIn, key_agrees, one_place, NodeHeld, below_key, place_holds, place_good, place_means, place_slot, reached_place}
 
 -- a sound pool's capacity is the one that it is measured to have
-pub sound_capacity : (pool : List ℕ) (n : ℕ) (s : Sound pool) → capacity_of pool ≡ Capacity n → s.n ≡ n
+pub sound_capacity : (pool : List ℕ) (n : ℕ) (s : Sound pool) → capacity_of pool ≡ Some n → s.n ≡ n
 sound_capacity pool n s e = let size = s.size in cc
 
 module _ (pool : List ℕ) (n : ℕ) where
@@ -63,7 +63,7 @@ module _ (pool : List ℕ) (n : ℕ) where
             ∙ stored_cong 16 12 (depth pool n j) (length_of (header_at pool n j)) N.s k (λ i l. sym (agrees k B (depth pool n j + i) (omega arith)));
       }
 
-  module _ (t : Tree ℕ) (size : capacity_of pool ≡ Capacity n) (H : Held 16 n (mem pool) t) where
+  module _ (t : Tree ℕ) (size : capacity_of pool ≡ Some n) (H : Held 16 n (mem pool) t) where
     -- its capacity n can be seen
     unfoldable pub held_is_sound : Sound pool
     held_is_sound = record {

@@ -1,5 +1,6 @@
 -- A survey that stays sound has seen a tree: what is reached from the reference is held, and good below every way that leads to it.
 -- Rests on what the layout's references show. Assumes nothing.
+use Rattle.std.specs.Prelude.{None, Option, Some}
 use mathlib.Core.Path.{◌≡◌, refl, sym, ap, ◌∙◌, subst}
 use mathlib.Core.Bool.{Bool, true, false, not}
 use mathlib.Core.Logic.{◌≢◌, ◌⊎◌, inl, inr, ⊎_elim}
@@ -31,14 +32,10 @@ use Rattle.layout.specs.Layout.{base, head_view, Held}
 use Rattle.layout.proofs.Base.{Decoded, decoded, SeesNode, leaf_seen, node_seen, none_seen}
 use Rattle.layout.proofs.Held.{held}
 use Rattle.walk.specs.Walks.{head_of, children_of, is_child}
-use Rattle.walk.specs.declared.Head.{Head as Judged}
-use Rattle.walk.specs.declared.Head.TheVariants.{Branch, Wrong}
 use Rattle.held.specs.Ways.{dig, mem}
 use Rattle.held.proofs.Heads.{held_zero}
 use Rattle.held.proofs.Lowest.{tally_same}
-use Rattle.survey.specs.declared.Census.{Census}
-use Rattle.survey.specs.declared.Gather.{Gather}
-use Rattle.survey.specs.Surveys.{Survey, survey, census, unsound, spoilt, leaf_met, join_of, Gathered, gathered, gather, kid_of}
+use Rattle.survey.specs.Surveys.{Census, Gather, Survey, survey, census, unsound, spoilt, leaf_met, join_of, Gathered, gathered, gather, kid_of}
 use Rattle.survey.specs.Surveys.{head_judged, kids_of, closed, node_met, ref_met, survey_from, survey_of}
 
 unsound_never : {A : Type 0} → ◌≡◌ {A = Bool} false true → A
@@ -62,12 +59,12 @@ pub record HeadSays (w word b : ℕ) : Type 0 where
   pub high : b < 16
   pub branch : depth_of word + length_of word ≡ b
 
-pub head_says : (w word b : ℕ) → head_of w word ≡ Branch b → HeadSays w word b
+pub head_says : (w word b : ℕ) → head_of w word ≡ Some b → HeadSays w word b
 unfolding head_of
 head_says w word b e = go (ltb (depth_of word) w) refl (ltb 15 (length_of word)) refl (ltb 15 (depth_of word + length_of word)) refl e
   where
     go : (x : Bool) → ltb (depth_of word) w ≡ x → (y : Bool) → ltb 15 (length_of word) ≡ y → (z : Bool) → ltb 15 (depth_of word + length_of word) ≡ z
-        → pick {A = Judged} x Wrong (pick {A = Judged} y Wrong (pick {A = Judged} z Wrong (Branch (depth_of word + length_of word)))) ≡ Branch b
+        → pick {A = Option ℕ} x None (pick {A = Option ℕ} y None (pick {A = Option ℕ} z None (Some (depth_of word + length_of word)))) ≡ Some b
         → HeadSays w word b
     go true ex y ey z ez h = let o : ◌≡◌ {A = ℕ} 0 1 = cc in absurd (omega arith)
     go false ex true ey z ez h = let o : ◌≡◌ {A = ℕ} 0 1 = cc in absurd (omega arith)
@@ -268,7 +265,7 @@ module _ (pool : List ℕ) (n : ℕ) where
   -- ---- a node
   module _ (go : ℕ → ℕ → Survey → Survey) (was : (w r : ℕ) (v : Survey) → (go w r v).census.sound ≡ true → v.census.sound ≡ true)
       (sees : (w r : ℕ) (v : Survey) → (go w r v).census.sound ≡ true → Seen w r (go w r v).census.last) (w r j b : ℕ) (ref : ref_of n r ≡ Node j)
-      (head : head_of w (header_at pool n j) ≡ Branch b) (v : Survey) where
+      (head : head_of w (header_at pool n j) ≡ Some b) (v : Survey) where
     abbrev word : ℕ
     word = header_at pool n j
 
@@ -412,15 +409,15 @@ module _ (pool : List ℕ) (n : ℕ) where
 
   node_met_lem : (go : ℕ → ℕ → Survey → Survey) → ((w r : ℕ) (v : Survey) → (go w r v).census.sound ≡ true → v.census.sound ≡ true)
       → ((w r : ℕ) (v : Survey) → (go w r v).census.sound ≡ true → Seen w r (go w r v).census.last) → (w r j : ℕ) (v : Survey) → ref_of n r ≡ Node j
-      → (x : Judged) → head_of w (header_at pool n j) ≡ x → (node_met go pool n w j x v).census.sound ≡ true → Seen w r (node_met go pool n w j x v).census.last
-  node_met_lem go was sees w r j v ref Wrong e h = unsound_never h
-  node_met_lem go was sees w r j v ref (Branch b) e h = at_count (less? (children_of pool n j) 2) (same? (get_or v.marks (n + j) 0) 0)
+      → (x : Option ℕ) → head_of w (header_at pool n j) ≡ x → (node_met go pool n w j x v).census.sound ≡ true → Seen w r (node_met go pool n w j x v).census.last
+  node_met_lem go was sees w r j v ref None e h = unsound_never h
+  node_met_lem go was sees w r j v ref (Some b) e h = at_count (less? (children_of pool n j) 2) (same? (get_or v.marks (n + j) 0) 0)
     where
       v₁ : Survey
       v₁ = survey (set v.marks (n + j) (w + 1)) v.census
 
       at_count : (children_of pool n j < 2) ⊎ (2 ≤ children_of pool n j) → Same? (get_or v.marks (n + j) 0) 0
-          → Seen w r (node_met go pool n w j (Branch b) v).census.last
+          → Seen w r (node_met go pool n w j (Some b) v).census.last
       at_count (inl l) m = unsound_never (rw (lt-ltb (children_of pool n j) 2 l) at h)
       at_count (inr l) (other p q) = unsound_never (rw (le-ltb (children_of pool n j) 2 l, q) at h)
       at_count (inr l) (same p q) =

@@ -1,5 +1,6 @@
 -- Laws of the survey: one that has met damage does nothing, its bound on nodes is not seen, and a reference to no node is met alike at every depth.
 -- Assumes nothing.
+use Rattle.std.specs.Prelude.{None, Option, Some}
 use mathlib.Core.Path.{◌≡◌, refl, sym, ap, ◌∙◌}
 use mathlib.Core.Bool.{true, false}
 use mathlib.Core.List.{List}
@@ -13,8 +14,6 @@ use Rattle.pool.specs.Refs.{ref_of}
 use Rattle.pool.specs.declared.Ref.{Ref}
 use Rattle.pool.specs.declared.Ref.TheVariants.{Empty, Leaf, Node, Bad}
 use Rattle.walk.specs.Walks.{head_of, Between, children_of}
-use Rattle.walk.specs.declared.Head.{Head}
-use Rattle.walk.specs.declared.Head.TheVariants.{Branch, Wrong}
 use Rattle.walk.proofs.Heads.{between}
 use Rattle.survey.specs.Surveys.{Survey, survey, spoilt, kid_of, closed, node_met, ref_met, survey_from}
 use Rattle.survey.proofs.Loops.{upto_same}
@@ -53,17 +52,17 @@ module _ (pool : List ℕ) (n : ℕ) where
 
   -- ---- the bound on nodes is not seen
   kids_same : (go go' : ℕ → ℕ → Survey → Survey) (w j : ℕ) (v : Survey) → ((d r : ℕ) (u : Survey) → w < d → go d r u ≡ go' d r u)
-      → (h : Head) → Between w h → node_met go pool n w j h v ≡ node_met go' pool n w j h v
-  kids_same go go' w j v e (Branch b) l =
+      → (h : Option ℕ) → Between w h → node_met go pool n w j h v ≡ node_met go' pool n w j h v
+  kids_same go go' w j v e (Some b) l =
       ap (λ (g : Survey). pick (ltb (children_of pool n j) 2) (spoilt v) (pick (eqb (get_or v.marks (n + j) 0) 0) g (spoilt v)))
       (ap (closed (header_at pool n j))
       (upto_same (kid_of go pool n j b) (kid_of go' pool n j b) _ (λ c g. rw (e (b + 1) (child_at pool n j c) (survey g.marks g.sum.census) (omega arith))) 16))
-  kids_same go go' w j v e Wrong l = refl
+  kids_same go go' w j v e None l = refl
 
   -- no header is accepted where no digit is left
-  none_left : (go : ℕ → ℕ → Survey → Survey) (w j : ℕ) (v : Survey) → 16 ≤ w → (h : Head) → Between w h → spoilt v ≡ node_met go pool n w j h v
-  none_left go w j v g (Branch b) l = absurd (omega arith)
-  none_left go w j v g Wrong l = refl
+  none_left : (go : ℕ → ℕ → Survey → Survey) (w j : ℕ) (v : Survey) → 16 ≤ w → (h : Option ℕ) → Between w h → spoilt v ≡ node_met go pool n w j h v
+  none_left go w j v g (Some b) l = absurd (omega arith)
+  none_left go w j v g None l = refl
 
   node_end : (f w j : ℕ) (v : Survey) → 16 ≤ w → spoilt v ≡ node_from f w j v
   node_end zero w j v g = refl

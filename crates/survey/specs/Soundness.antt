@@ -1,23 +1,21 @@
 -- "Sound and straight", clause by clause, in the document's order.
 -- Assumes nothing.
-use Rattle.std.specs.Prelude.{◌≡◌, List, ℕ, ◌+◌, ◌%◌, ◌^◌, ◌≤◌, ◌<◌}
-use Rattle.std.proofs.Math.Option.{Option, none, some}
+use Rattle.std.specs.Prelude.{◌≡◌, List, ℕ, ◌+◌, ◌%◌, ◌^◌, ◌≤◌, ◌<◌, Some, Option, None}
 use Rattle.digits.specs.Digits.{digit_of}
 use Rattle.digits.specs.Headers.{depth_of, length_of, stored_in}
 use Rattle.pool.specs.Sizes.{capacity_of}
 use Rattle.pool.specs.Places.{word_at, key_at, header_at, child_word}
 use Rattle.pool.specs.Refs.{ref_of}
-use Rattle.pool.specs.declared.Size.TheVariants.{Holds}
 use Rattle.pool.specs.declared.Ref.{Ref}
 use Rattle.pool.specs.declared.Ref.TheVariants.{Empty, Leaf, Node, Bad}
 use Rattle.walk.specs.Walks.{children_of}
 
 -- "Slots are named by their byte number in the map."
 abbrev pub slot_of : ℕ → Ref → Option ℕ
-slot_of n Empty = none
-slot_of n (Leaf i) = some i
-slot_of n (Node j) = some (n + j)
-slot_of n Bad = none
+slot_of n Empty = None
+slot_of n (Leaf i) = Some i
+slot_of n (Node j) = Some (n + j)
+slot_of n Bad = None
 
 module _ (pool : List ℕ) (n : ℕ) where
   -- what the reference at word i means
@@ -58,12 +56,12 @@ module _ (pool : List ℕ) (n : ℕ) where
 -- "A pool is sound if its length and word 0 agree and, for everything reached from the root: .."
 pub record Sound (pool : List ℕ) : Type 0 where
   pub n : ℕ
-  pub size : capacity_of pool ≡ Holds n
+  pub size : capacity_of pool ≡ Some n
   -- "references are good"
   pub good : (i w : ℕ) → Reached pool n i w → at pool n i ≡ Bad → ⊥
   pub nodes : (i w j : ℕ) → Reached pool n i w → at pool n i ≡ Node j → SoundNode pool n i w j
   -- "no slot is reached twice"
-  pub once : (i i' w w' x : ℕ) → Reached pool n i w → Reached pool n i' w' → slot_of n (at pool n i) ≡ some x → slot_of n (at pool n i') ≡ some x → i ≡ i'
+  pub once : (i i' w w' x : ℕ) → Reached pool n i w → Reached pool n i' w' → slot_of n (at pool n i) ≡ Some x → slot_of n (at pool n i') ≡ Some x → i ≡ i'
 
 -- "A node with h > w is stale": node j
 pub record Stale (pool : List ℕ) (n j : ℕ) : Type 0 where
@@ -83,4 +81,4 @@ pub record InUse (pool : List ℕ) (n x : ℕ) : Type 0 where
   pub i : ℕ
   pub w : ℕ
   pub reached : Reached pool n i w
-  pub slot : slot_of n (at pool n i) ≡ some x
+  pub slot : slot_of n (at pool n i) ≡ Some x

@@ -1,6 +1,6 @@
 -- The survey of a whole pool: whether all that is reached from the root is sound, and what is reached. It goes as a listing's visit goes.
 -- Assumes nothing.
-use Rattle.std.specs.Prelude.{◌≡◌, Bool, true, false, List, ℕ, zero, suc, ◌+◌, ◌<◌, eqb, leb, ltb, get_or, set, replicate}
+use Rattle.std.specs.Prelude.{◌≡◌, Bool, true, false, List, ℕ, zero, suc, ◌+◌, ◌<◌, eqb, leb, ltb, get_or, set, replicate, Option, Some, None}
 use Rattle.digits.specs.Choice.{pick}
 use Rattle.digits.specs.Loops.{upto}
 use Rattle.digits.specs.Digits.{digit_of, first_diff}
@@ -11,13 +11,20 @@ use Rattle.pool.specs.Refs.{ref_of}
 use Rattle.pool.specs.declared.Ref.{Ref}
 use Rattle.pool.specs.declared.Ref.TheVariants.{Empty, Leaf, Node, Bad}
 use Rattle.walk.specs.Walks.{head_of, children_of}
-use Rattle.walk.specs.declared.Head.{Head}
-use Rattle.walk.specs.declared.Head.TheVariants.{Branch, Wrong}
-use Rattle.survey.specs.declared.Census.{Census}
-use Rattle.survey.specs.declared.Gather.{Gather}
+use Rattle.survey.specs.declared.Span.{Span}
 
--- the marks, a byte for each slot (0 where it is not reached, 1 for a leaf, 1 + w for a node met at walk depth w), and the census: the last
--- key met, and whether all is sound so far
+-- the last key met, and whether all is sound so far
+pub record Census : Type 0 where
+  pub last : ℕ
+  pub sound : Bool
+
+-- what the children of a node so far come to: the census, a key below the first of them, and whether there was one
+pub record Gather : Type 0 where
+  pub census : Census
+  pub first : ℕ
+  pub some : Bool
+
+-- the marks, a byte for each slot (0 where it is not reached, 1 for a leaf, 1 + w for a node met at walk depth w), and the census
 pub record Survey : Type 0 where
   pub marks : List ℕ
   pub census : Census
@@ -41,7 +48,6 @@ leaf_met i key v =
     (survey (set v.marks i 1) (census key true))
     (spoilt v)
 
--- what the children of a node so far come to: a key below the first of them, and whether there was one
 abbrev pub gather : Census → ℕ → Bool → Gather
 gather s f b = record { census = s; first = f; some = b }
 
@@ -86,13 +92,13 @@ abbrev pub closed : ℕ → Gathered → Survey
 closed word g = survey g.marks (head_judged word g.sum)
 
 -- node j is met at walk depth w. "a node reached at depth w has w <= h <= b <= 15; it has at least two children"; "no slot is reached twice"
-abbrev pub node_met : (ℕ → ℕ → Survey → Survey) → List ℕ → ℕ → ℕ → ℕ → Head → Survey → Survey
-node_met go pool n w j (Branch b) v =
+abbrev pub node_met : (ℕ → ℕ → Survey → Survey) → List ℕ → ℕ → ℕ → ℕ → Option ℕ → Survey → Survey
+node_met go pool n w j (Some b) v =
     pick (ltb (children_of pool n j) 2) (spoilt v)
     (pick (eqb (get_or v.marks (n + j) 0) 0)
     (closed (header_at pool n j) (kids_of go pool n j b (survey (set v.marks (n + j) (w + 1)) v.census)))
     (spoilt v))
-node_met go pool n w j Wrong v = spoilt v
+node_met go pool n w j None v = spoilt v
 
 abbrev pub ref_met : (ℕ → Survey → Survey) → List ℕ → ℕ → Ref → Survey → Survey
 ref_met node pool n Empty v = v
@@ -111,15 +117,28 @@ survey_from (suc more) pool n w r v =
 unfoldable pub survey_of : List ℕ → ℕ → Survey
 survey_of pool n = survey_from 17 pool n 0 (word_at pool 1) (survey (replicate (bytes_of n) 0) (census 0 true))
 
--- what the code's survey v has to do with the definition's u: both have met damage, or they are the same. Damage refuses the whole pool, so
--- what was marked before it is not seen.
-pub record Alike (v u : Survey) : Type 0 where
-  pub sound : v.census.sound ≡ u.census.sound
-  pub same : u.census.sound ≡ true → v ≡ u
+-- what the code answers for a census: the last key met, or nothing once damage is met
+abbrev pub answer_of : Census → Option ℕ
+answer_of s = pick s.sound (Some s.last) None
 
--- with these marks, all sound so far and whatever key was met last, f comes to v
-abbrev pub Gives : (Survey → Survey) → List ℕ → Survey → Type 0
-Gives f marks v = (k : ℕ) → Alike v (f (survey marks (census k true)))
+-- and for the children of a node so far: a key below the first of them and the last key met, or nothing once damage is met
+abbrev pub span_of : Gather → Option Span
+span_of g = pick g.census.sound (Some (record { first = g.first; last = g.census.last })) None
+
+-- the children so far as the code has gathered them without damage: none yet, or a span
+abbrev pub gather_of : Option Span → Gather
+gather_of None = gather (census 0 true) 0 false
+gather_of (Some x) = gather (census x.last true) x.first true
+
+-- what the code's marks and answer have to do with the definition's survey u: both have met damage, or they are the same. Damage refuses the whole
+-- pool, so what was marked before it is not seen.
+pub record Alike (marks : List ℕ) (answer : Option ℕ) (u : Survey) : Type 0 where
+  pub told : answer ≡ answer_of u.census
+  pub same : u.census.sound ≡ true → marks ≡ u.marks
+
+-- with these marks, all sound so far and whatever key was met last, f comes to the code's marks and answer
+abbrev pub Gives : (Survey → Survey) → List ℕ → List ℕ → Option ℕ → Type 0
+Gives f before marks answer = (k : ℕ) → Alike marks answer (f (survey before (census k true)))
 
 -- what the code keeps of the survey u of a whole pool
 pub record Found (marks : List ℕ) (sound : Bool) (u : Survey) : Type 0 where

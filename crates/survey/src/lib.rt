@@ -1,163 +1,106 @@
 // The survey of a whole pool: whether all that is reached from the root is sound, and what is reached. It leaves at the first damage.
 #![tactic(auto)]
 
-ghost use Rattle.std.specs.Prelude.{◌≡◌, true, false, ◌+◌, ◌<◌, ◌≤◌, length, replicate};
-ghost use Rattle.pool.specs.Sizes.{Sized, bytes_of};
+ghost use Rattle.std.specs.Prelude.{◌≡◌, true, ◌+◌, ◌<◌, ◌≤◌, length, replicate};
+ghost use Rattle.pool.specs.Sizes.{bytes_of};
 ghost use Rattle.pool.specs.Places.{header_at};
 ghost use Rattle.walk.specs.Walks.{head_of};
-ghost use Rattle.survey.specs.Surveys.{survey, census, leaf_met, gather, join_of, Accepted, head_judged, node_met, survey_from, survey_of, Gives, Found};
+ghost use Rattle.survey.specs.Surveys.{census, leaf_met, join_of, Accepted, head_judged, node_met, survey_from, survey_of, answer_of, span_of, gather_of, Gives, Found};
 
 use digits::Header;
-use pool::Ref;
-use walk::Head;
+use pool::{Pool, Ref};
 
-// The last key met, and whether all is sound so far.
+// What the children of a node so far come to: a key below the first of them, and the last key met.
 #[derive(Clone, Copy)]
-pub struct Census {
-    pub last: u64,
-    pub sound: bool,
+struct Span {
+    first: u64,
+    last: u64,
 }
 
-// What the children of a node so far come to: the census, a key below the first of them, and whether there was one.
-#[derive(Clone, Copy)]
-pub struct Gather {
-    pub census: Census,
-    pub first: u64,
-    pub some: bool,
-}
-
-// Damage is met.
-fn damage() -> Census
-    ensures { result ≡ census 0 false }
-{
-    Census {
-        last: 0,
-        sound: false,
-    }
-}
-
-// Leaf i is met, which has this key.
-fn meet_leaf(map: &mut [u8], i: usize, key: u64) -> Census
+// Leaf i is met, which has this key. It is damage if it was met before.
+#[tactic(auto, unfolding(crate::specs::Surveys::leaf_met))]
+fn meet_leaf(map: &mut [u8], i: usize, key: u64) -> Option<u64>
     requires { i < length map.old }
-    ensures { Gives (leaf_met i key) map.old (survey map.new result) }
+    ensures { Gives (leaf_met i key) map.old map.new result }
 {
     if map[i] != 0 {
-        return damage();
+        return None;
     }
     map[i] = 1;
-    Census {
-        last: key,
-        sound: true,
-    }
+    Some(key)
 }
 
-// One child more has been surveyed.
-fn gathered(last: u64, sound: bool, first: u64) -> Gather
-    ensures { result ≡ gather (census last sound) first true }
+// Child c of a node that branches at b has been surveyed, and `last` is the last key below it. It is damage if that key does not stand there.
+#[tactic(auto, unfolding(crate::specs::Surveys::join_of))]
+fn join(b: usize, c: usize, before: Option<Span>, last: u64) -> Option<Span>
+    ensures { result ≡ span_of (join_of b c (gather_of before) (census last true)) }
 {
-    Gather {
-        census: Census { last, sound },
-        first,
-        some: true,
-    }
-}
-
-// Child c of a node that branches at b has been surveyed.
-fn join(b: usize, c: usize, g: Gather, s: Census) -> Gather
-    ensures { result ≡ join_of b c g s }
-{
-    let last = s.last;
-    let first = g.first;
-    let sound = s.sound;
-    if !sound {
-        return gathered(last, false, first);
-    }
     if digits::digit(last, b) != c {
-        return gathered(last, false, first);
+        return None;
     }
-    let some = g.some;
-    if !some {
-        return gathered(last, true, last);
-    }
-    gathered(last, b <= digits::first_diff(first, last), first)
+    let Some(Span { first, .. }) = before else {
+        return Some(Span { first: last, last });
+    };
+    (b <= digits::first_diff(first, last)).then_some(Span { first, last })
 }
 
-// The header of a node, by a key below its first child; the last key below it is `last`.
-fn judge_header(word: u64, first: u64, last: u64) -> Census
+// A node has this header, and its children come to the span. It is damage if the header is not the one that a key below the first child has.
+#[tactic(auto, unfolding(crate::specs::Surveys::head_judged))]
+fn judge_header(word: u64, span: Span) -> Option<u64>
     requires { Accepted word }
-    ensures { result ≡ head_judged word (gather (census last true) first true) }
+    ensures { result ≡ answer_of (head_judged word (gather_of (Some span))) }
 {
-    let h = Header::unpack(word);
-    Census {
-        last,
-        sound: Header::pack(h.depth, h.length, first) == word,
+    let Header { depth, length } = Header::unpack(word);
+    (Header::pack(depth, length, span.first) == word).then_some(span.last)
+}
+
+// The reference r, which is not empty, is met at walk depth w: the last key below it, or damage.
+#[inline(always)]
+#[cycle(survey_node_survey_ref)]
+fn survey_ref(pool: &Pool, w: usize, r: u64, map: &mut [u8]) -> Option<u64>
+    requires { (length map.old ≡ bytes_of pool.now.n) × (w ≤ 16) × (r ≡ 0 → ⊥) }
+    ensures { Gives (survey_from 17 pool.now.words.now pool.now.n w r) map.old map.new result }
+{
+    match pool::reference(pool.n, r) {
+        Ref::Leaf(i) => meet_leaf(map, i, pool.leaf_key(i)),
+        Ref::Node(j) => survey_node(pool, w, j, map),
+        Ref::Empty | Ref::Bad => None,
     }
 }
 
-// The reference r, which is not empty, is met at walk depth w.
+// Node j is met at walk depth w: the last key below it, or damage. Its children are counted as they are met.
 #[cycle(survey_node_survey_ref)]
-fn survey_ref(pool: &[u64], n: usize, w: usize, r: u64, map: &mut [u8]) -> Census
-    requires { Sized pool.now n × (length map.old ≡ bytes_of n) × (w ≤ 16) × (r ≡ 0 → ⊥) }
-    ensures { Gives (survey_from 17 pool.now n w r) map.old (survey map.new result) }
+fn survey_node(pool: &Pool, w: usize, j: usize, map: &mut [u8]) -> Option<u64>
+    requires { (length map.old ≡ bytes_of pool.now.n) × (w ≤ 16) × (j + 1 < pool.now.n) }
+    ensures { let words = pool.now.words.now in let n = pool.now.n in Gives (node_met (survey_from 17 words n) words n w j (head_of w (header_at words n j))) map.old map.new result }
 {
-    match pool::reference(n, r) {
-        Ref::Empty => damage(),
-        Ref::Leaf(i) => meet_leaf(map, i, pool::leaf_key(pool, n, i)),
-        Ref::Node(j) => survey_node(pool, n, w, j, map),
-        Ref::Bad => damage(),
+    let word = pool.header(j);
+    let b = walk::accept(w, word)?;
+    let slot = pool.n + j;
+    if map[slot] != 0 {
+        return None;
     }
-}
-
-// Node j is met at walk depth w. Its children are counted as they are met.
-#[cycle(survey_node_survey_ref)]
-fn survey_node(pool: &[u64], n: usize, w: usize, j: usize, map: &mut [u8]) -> Census
-    requires { Sized pool.now n × (length map.old ≡ bytes_of n) × (w ≤ 16) × (j + 1 < n) }
-    ensures { Gives (node_met (survey_from 17 pool.now n) pool.now n w j (head_of w (header_at pool.now n j))) map.old (survey map.new result) }
-{
-    let word = pool::header(pool, n, j);
-    let Head::Branch(b) = walk::accept(w, word) else {
-        return damage();
-    };
-    if map[n + j] != 0 {
-        return damage();
-    }
-    map[n + j] = (w + 1) as u8;
-    let mut g = Gather {
-        census: Census {
-            last: 0,
-            sound: true,
-        },
-        first: 0,
-        some: false,
-    };
+    map[slot] = (w + 1) as u8;
+    let mut span = None;
     let mut children: usize = 0;
-    let mut c: usize = 0;
-    while c < Header::CHILDREN {
-        let r = pool::child(pool, n, j, c);
-        if r != 0 {
-            g = join(b, c, g, survey_ref(pool, n, b + 1, r, map));
-            if !g.census.sound {
-                return damage();
-            }
+    for (c, r) in pool.children(j).iter().enumerate() {
+        if *r != 0 {
+            let last = survey_ref(pool, b + 1, *r, map)?;
+            span = Some(join(b, c, span, last)?);
             children += 1;
         }
-        c += 1;
     }
     if children < 2 {
-        return damage();
+        return None;
     }
-    judge_header(word, g.first, g.census.last)
+    judge_header(word, span?)
 }
 
 // The survey of a pool from its root, into a map that is all 0.
-pub fn survey(pool: &[u64], n: usize, map: &mut [u8]) -> bool
-    requires { Sized pool.now n × (map.old ≡ replicate (bytes_of n) 0) }
-    ensures { Found map.new result (survey_of pool.now n) }
+pub fn survey(pool: &Pool, map: &mut [u8]) -> bool
+    requires { map.old ≡ replicate (bytes_of pool.now.n) 0 }
+    ensures { Found map.new result (survey_of pool.now.words.now pool.now.n) }
 {
-    match pool::reference(n, pool[1]) {
-        Ref::Empty => true,
-        Ref::Leaf(i) => meet_leaf(map, i, pool::leaf_key(pool, n, i)).sound,
-        Ref::Node(j) => survey_node(pool, n, 0, j, map).sound,
-        Ref::Bad => false,
-    }
+    let root = pool.root();
+    root == 0 || survey_ref(pool, 0, root, map).is_some()
 }

@@ -1,8 +1,8 @@
 -- The trees that a delete makes: nothing left at a place, which is the root or the child of a node of three or more; a node of two bypassed.
 -- Rests on replacing at a place, and on counted children. Assumes nothing.
+use Rattle.std.specs.Prelude.{Option, None, Some}
 use mathlib.Core.Path.{◌≡◌, refl, sym, ap, ◌∙◌, subst}
 use mathlib.Core.Logic.{◌≢◌}
-use mathlib.Core.Option.{Option, none, some}
 use Prim.Native.Nat.{ℕ, ◌+◌, ◌≤◌, ◌<◌}
 use mathlib.Core.List.{List, [], ◌∷◌, ◌++◌}
 use native.Mathlib.Omega.{arith}
@@ -49,7 +49,7 @@ module _ (dig : ℕ → ℕ → ℕ) (dl : (k i : ℕ) → dig k i < 16) (D : �
           good_plug dig D ρ 0 (λ i. 0) t (kids o) p.on good fo
           (good_lift dig D (dep ρ 0 t) b o s (pre dig ρ (λ i. 0) t) (kids o) node_good.0 node_good.2 (node_good.3 o lo))
 
-      off : (k : ℕ) → dig k b ≢ o → find dig k (kids o) ≡ none
+      off : (k : ℕ) → dig k b ≢ o → find dig k (kids o) ≡ None
       unfolding Good
       off k n = not_found dig D dl (b + 1) (upd (dig s) b o) (kids o) k b (node_good.3 o lo) (omega arith) (λ e. n (e ∙ upd_at (dig s) b o))
 
@@ -57,7 +57,7 @@ module _ (dig : ℕ → ℕ → ℕ) (dl : (k i : ℕ) → dig k i < 16) (D : �
       only = no_third kids c o two lc lo apart fc fo
 
       -- a key that is not below c is found below o as below the node
-      kept : (k : ℕ) → find dig k (kids c) ≡ none → Same? (dig k b) o → Same? (dig k b) c → find dig k (kids o) ≡ find dig k (kids (dig k b))
+      kept : (k : ℕ) → find dig k (kids c) ≡ None → Same? (dig k b) o → Same? (dig k b) c → find dig k (kids o) ≡ find dig k (kids (dig k b))
       unfolding find
       kept k e (same y z) v = rw y
       kept k e (other y z) (same y' z') = off k y ∙ sym (rw y' e)
@@ -92,9 +92,9 @@ module _ (dig : ℕ → ℕ → ℕ) (dl : (k i : ℕ) → dig k i < 16) (D : �
       → find dig k t' ≡ find dig k t
   elsewhere_kept π over t' on cl k n = cl.others k (go (find dig k (sub π t)) refl)
     where
-      go : (r : Option A) → find dig k (sub π t) ≡ r → find dig k (sub π t) ≡ none
-      go none e = e
-      go (some v) e = absurd (n (found_agrees dig D dl (dep π 0 t) (pre dig π (λ i. 0) t) (sub π t) k v (good_sub dig D π 0 (λ i. 0) t on good) e))
+      go : (r : Option A) → find dig k (sub π t) ≡ r → find dig k (sub π t) ≡ None
+      go None e = e
+      go (Some v) e = absurd (n (found_agrees dig D dl (dep π 0 t) (pre dig π (λ i. 0) t) (sub π t) k v (good_sub dig D π 0 (λ i. 0) t on good) e))
 
   -- a leaf dropped is its key removed
   pub leaf_removed : (π : List ℕ) (over : List ℕ) (t' : Tree A) (x k : ℕ) (v : A) → Stands π (leaf x k v) t → Clears dig π over t t'

@@ -1,9 +1,9 @@
 -- A good tree's entries rise, are as many as its leaves, and are found as the walk finds them. Two rising lists that answer alike are equal.
 -- Rests on the digits of places. Assumes nothing.
+use Rattle.std.specs.Prelude.{Option, None, Some}
 use mathlib.Core.Path.{◌≡◌, refl, sym, ap, ◌∙◌}
 use mathlib.Core.Logic.{◌≢◌, ◌⊎◌, inl, inr}
 use Prim.Native.Nat.{ℕ, zero, suc, ◌+◌, ◌≤◌, ◌<◌}
-use mathlib.Core.Option.{Option, none, some}
 use mathlib.Core.List.{List, [], ◌∷◌, ◌++◌}
 use native.Mathlib.Omega.{arith}
 use lib.Dec.{eqb}
@@ -33,22 +33,22 @@ module _ {A : Type 0} where
   rising_append P [] r a b p f = b
   rising_append P (e ∷ l) r a b p f = (every_append (λ e'. e.key < e'.key) l r a.0 (f e p.0), rising_append P l r a.1 b p.1 f)
 
-  look_append_none : (k : ℕ) (l r : List (Entry A)) → look k l ≡ none → look k (l ++ r) ≡ look k r
+  look_append_none : (k : ℕ) (l r : List (Entry A)) → look k l ≡ None → look k (l ++ r) ≡ look k r
   unfolding look
   look_append_none k [] r e = refl
   look_append_none k (x ∷ l) r e = go (look_append_none k l r) (same? k x.key)
     where
-      go : (look k l ≡ none → look k (l ++ r) ≡ look k r) → Same? k x.key → pick (eqb k x.key) (some x.value) (look k (l ++ r)) ≡ look k r
-      go ih (same p q) = let z : ◌≡◌ {A = Option A} (some x.value) none = rw q at e in cc
+      go : (look k l ≡ None → look k (l ++ r) ≡ look k r) → Same? k x.key → pick (eqb k x.key) (Some x.value) (look k (l ++ r)) ≡ look k r
+      go ih (same p q) = let z : ◌≡◌ {A = Option A} (Some x.value) None = rw q at e in cc
       go ih (other p q) = rw q (ih (rw q at e))
 
-  look_append_after : (k : ℕ) (l r : List (Entry A)) → look k r ≡ none → look k (l ++ r) ≡ look k l
+  look_append_after : (k : ℕ) (l r : List (Entry A)) → look k r ≡ None → look k (l ++ r) ≡ look k l
   unfolding look
   look_append_after k [] r e = e
-  look_append_after k (x ∷ l) r e = ap (pick (eqb k x.key) (some x.value)) (look_append_after k l r e)
+  look_append_after k (x ∷ l) r e = ap (pick (eqb k x.key) (Some x.value)) (look_append_after k l r e)
 
   -- a key that no entry has
-  pub look_none : (k : ℕ) (l : List (Entry A)) → Every (λ e. k ≢ e.key) l → look k l ≡ none
+  pub look_none : (k : ℕ) (l : List (Entry A)) → Every (λ e. k ≢ e.key) l → look k l ≡ None
   unfolding look Every
   look_none k [] g = refl
   look_none k (x ∷ l) g = rw (ne_eqb k x.key g.0) (look_none k l g.1)
@@ -59,17 +59,17 @@ module _ {A : Type 0} where
   cat_every P zero f h = tt
   cat_every P (suc n) f h = every_append P (cat n f) (f n) (cat_every P n f (λ c l. h c (omega arith))) (h n (omega arith))
 
-  look_cat_none : (k n : ℕ) (f : ℕ → List (Entry A)) → ((c : ℕ) → c < n → look k (f c) ≡ none) → look k (cat n f) ≡ none
+  look_cat_none : (k n : ℕ) (f : ℕ → List (Entry A)) → ((c : ℕ) → c < n → look k (f c) ≡ None) → look k (cat n f) ≡ None
   unfolding cat look
   look_cat_none k zero f h = refl
   look_cat_none k (suc n) f h = look_append_none k (cat n f) (f n) (look_cat_none k n f (λ c l. h c (omega arith))) ∙ h n (omega arith)
 
-  look_cat : (k n : ℕ) (f : ℕ → List (Entry A)) (c : ℕ) → c < n → ((d : ℕ) → d < n → d ≢ c → look k (f d) ≡ none) → look k (cat n f) ≡ look k (f c)
+  look_cat : (k n : ℕ) (f : ℕ → List (Entry A)) (c : ℕ) → c < n → ((d : ℕ) → d < n → d ≢ c → look k (f d) ≡ None) → look k (cat n f) ≡ look k (f c)
   unfolding cat
   look_cat k zero f c l h = absurd (omega arith)
   look_cat k (suc n) f c l h = go (look_cat k n f c) (same? c n)
     where
-      go : (c < n → ((d : ℕ) → d < n → d ≢ c → look k (f d) ≡ none) → look k (cat n f) ≡ look k (f c)) → Same? c n → look k (cat n f ++ f n) ≡ look k (f c)
+      go : (c < n → ((d : ℕ) → d < n → d ≢ c → look k (f d) ≡ None) → look k (cat n f) ≡ look k (f c)) → Same? c n → look k (cat n f ++ f n) ≡ look k (f c)
       go ih (same e p) =
           look_append_none k (cat n f) (f n) (look_cat_none k n f (λ d o. h d (omega arith) (λ z. omega arith))) ∙ ap (λ i. look k (f i)) (sym e)
       go ih (other e p) = look_append_after k (cat n f) (f n) (h n (omega arith) (λ z. e (sym z))) ∙ ih (omega arith) (λ d o q. h d (omega arith) q)
@@ -145,10 +145,10 @@ module _ (dig : ℕ → ℕ → ℕ) (D : ℕ) (Ok : ℕ → Type 0)
 
 -- ---- a rising list is decided by its answers: so a listing is, and so is a table written as one
 module _ {A : Type 0} where
-  above : (k : ℕ) (l : List (Entry A)) (j : ℕ) → k ≤ j → Every (λ e. j < e.key) l → look k l ≡ none
+  above : (k : ℕ) (l : List (Entry A)) (j : ℕ) → k ≤ j → Every (λ e. j < e.key) l → look k l ≡ None
   above k l j h g = look_none k l (every_more (λ e. j < e.key) (λ e. k ≢ e.key) l (λ e p z. omega arith) g)
 
-  at_head : (e : Entry A) (l : List (Entry A)) → look e.key (e ∷ l) ≡ some e.value
+  at_head : (e : Entry A) (l : List (Entry A)) → look e.key (e ∷ l) ≡ Some e.value
   unfolding look
   at_head e l = rw (eq-eqb e.key e.key refl)
 
@@ -160,7 +160,7 @@ module _ {A : Type 0} where
   lower : (e e' : Entry A) (l r : List (Entry A)) → e.key < e'.key → Rising (e' ∷ r) → ((k : ℕ) → look k (e ∷ l) ≡ look k (e' ∷ r)) → ⊥
   unfolding Rising
   lower e e' l r h g s =
-      let z : ◌≡◌ {A = Option A} (some e.value) none
+      let z : ◌≡◌ {A = Option A} (Some e.value) None
       = sym (at_head e l) ∙ s e.key ∙ past e.key e' r (λ z. omega arith) ∙ above e.key r e'.key (omega arith) g.0 in
       let o : ◌≡◌ {A = ℕ} 0 1 = cc in
       omega arith
@@ -168,8 +168,8 @@ module _ {A : Type 0} where
   pub rising_decided : (l r : List (Entry A)) → Rising l → Rising r → ((k : ℕ) → look k l ≡ look k r) → l ≡ r
   unfolding Rising look
   rising_decided [] [] a b s = refl
-  rising_decided [] (e ∷ r) a b s = let z : ◌≡◌ {A = Option A} none (some e.value) = s e.key ∙ at_head e r in cc
-  rising_decided (e ∷ l) [] a b s = let z : ◌≡◌ {A = Option A} (some e.value) none = sym (at_head e l) ∙ s e.key in cc
+  rising_decided [] (e ∷ r) a b s = let z : ◌≡◌ {A = Option A} None (Some e.value) = s e.key ∙ at_head e r in cc
+  rising_decided (e ∷ l) [] a b s = let z : ◌≡◌ {A = Option A} (Some e.value) None = sym (at_head e l) ∙ s e.key in cc
   rising_decided (e ∷ l) (e' ∷ r) a b s = go (same? e.key e'.key) (rising_decided l r a.1 b.1)
     where
       tails : e.key ≡ e'.key → (k : ℕ) → Same? k e.key → look k l ≡ look k r
@@ -178,7 +178,7 @@ module _ {A : Type 0} where
 
       heads : e.key ≡ e'.key → e ≡ e'
       heads p =
-          let v : some e.value ≡ some e'.value = sym (at_head e l) ∙ s e.key ∙ ap (λ k. look k (e' ∷ r)) p ∙ at_head e' r in
+          let v : Some e.value ≡ Some e'.value = sym (at_head e l) ∙ s e.key ∙ ap (λ k. look k (e' ∷ r)) p ∙ at_head e' r in
           let w : e.value ≡ e'.value = cc in
           λ i. record { key = p i; value = w i }
 

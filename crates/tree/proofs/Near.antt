@@ -1,9 +1,9 @@
 -- Children, the lowest leaf, and the place that a put finds. Rests on the digits of places. Assumes nothing.
+use Rattle.std.specs.Prelude.{Option, None, Some}
 use mathlib.Core.Path.{◌≡◌, refl, sym, ap, ◌∙◌, subst}
 use mathlib.Core.Logic.{◌≢◌, ◌⊎◌, inl, inr}
 use Prim.Native.Nat.{ℕ, zero, suc, ◌+◌, ◌≤◌, ◌<◌}
 use mathlib.Core.Bool.{Bool, true, false}
-use mathlib.Core.Option.{Option, none, some}
 use mathlib.Core.List.{List, [], ◌∷◌}
 use native.Mathlib.Omega.{arith}
 use native.Mathlib.Nat.{eq-or-lt_of_le}
@@ -198,7 +198,7 @@ module _ (dig : ℕ → ℕ → ℕ) {A : Type 0} where
         go ih false e = low_agrees w q (node x b s kids) tt g
 
     -- ---- the place of a key: a leaf of the tree is found, and what is found stands at the end of its key's way
-    pub stands_found : (x k : ℕ) (v : A) (π : List ℕ) (t : Tree A) → Good dig D 0 (λ i. 0) t → Stands π (leaf x k v) t → find dig k t ≡ some v
+    pub stands_found : (x k : ℕ) (v : A) (π : List ℕ) (t : Tree A) → Good dig D 0 (λ i. 0) t → Stands π (leaf x k v) t → find dig k t ≡ Some v
     unfolding find Good
     stands_found x k v π t g p =
         let leads : Leads dig π t k = subst (GoodAt dig D π t) p.is (good_sub dig D π 0 (λ i. 0) t p.on g) in
@@ -206,15 +206,15 @@ module _ (dig : ℕ → ℕ → ℕ) {A : Type 0} where
         ∙ find_there dig D π 0 (λ i. 0) t (sub π t) k p.on g leads
         ∙ rw (p.is, eq-eqb k k refl)
 
-    pub found_stands : (w : ℕ) (q : ℕ → ℕ) (t : Tree A) (k : ℕ) (v : A) → Good dig D w q t → find dig k t ≡ some v
+    pub found_stands : (w : ℕ) (q : ℕ → ℕ) (t : Tree A) (k : ℕ) (v : A) → Good dig D w q t → find dig k t ≡ Some v
         → (x : ℕ) × Stands (way dig D k t) (leaf x k v) t
     unfolding find Good way sub
     found_stands w q empty k v g e = let z : ◌≡◌ {A = ℕ} 0 1 = cc in absurd (omega arith)
     found_stands w q (leaf x k' v') k v g e = go (same? k k')
       where
         go : Same? k k' → (y : ℕ) × Stands [] (leaf y k v) (leaf x k' v')
-        go (same p z) = let y : some v' ≡ some v = rw z at e in (x, record { on = here; is = cc })
-        go (other p z) = let y : ◌≡◌ {A = Option A} none (some v) = rw z at e in let o : ◌≡◌ {A = ℕ} 0 1 = cc in absurd (omega arith)
+        go (same p z) = let y : Some v' ≡ Some v = rw z at e in (x, record { on = here; is = cc })
+        go (other p z) = let y : ◌≡◌ {A = Option A} None (Some v) = rw z at e in let o : ◌≡◌ {A = ℕ} 0 1 = cc in absurd (omega arith)
     found_stands w q (node x b s kids) k v g e =
         let (y, p) = found_stands (b + 1) (upd (dig s) b (dig k b)) (kids (dig k b)) k v (g.3 (dig k b) (dl k b)) e in
         (y, rw (lt-ltb b D g.1) (record { on = down {kids = kids} (dl k b) p.on; is = p.is }))

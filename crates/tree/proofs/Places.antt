@@ -1,7 +1,7 @@
 -- A place in a tree and what stands there: replaced, counted, found, and good. Rests on updates and sums. Assumes nothing.
+use Rattle.std.specs.Prelude.{Option, None, Some}
 use mathlib.Core.Path.{◌≡◌, refl, sym, ap, ◌∙◌, subst, fun_ext}
 use mathlib.Core.Logic.{◌≢◌}
-use mathlib.Core.Option.{Option, none, some}
 use Prim.Native.Nat.{ℕ, ◌+◌, ◌≤◌, ◌<◌}
 use mathlib.Core.List.{List, [], ◌∷◌, ◌++◌}
 use native.Mathlib.Omega.{arith}
@@ -184,21 +184,21 @@ module _ (dig : ℕ → ℕ → ℕ) {A : Type 0} where
 
     module _ (dl : (k i : ℕ) → dig k i < 16) where
       -- what is found has the right digits
-      pub found_agrees : (w : ℕ) (q : ℕ → ℕ) (t : Tree A) (k : ℕ) (v : A) → Good dig D w q t → find dig k t ≡ some v → Agree dig w q k
+      pub found_agrees : (w : ℕ) (q : ℕ → ℕ) (t : Tree A) (k : ℕ) (v : A) → Good dig D w q t → find dig k t ≡ Some v → Agree dig w q k
       unfolding find Good
       found_agrees w q empty k v g e = λ i h. cc
       found_agrees w q (leaf x k' v') k v g e = go (same? k k')
         where
           go : Same? k k' → Agree dig w q k
           go (same p z) = rw p g
-          go (other p z) = λ i h. let y : ◌≡◌ {A = Option A} none (some v) = rw z at e in cc
+          go (other p z) = λ i h. let y : ◌≡◌ {A = Option A} None (Some v) = rw z at e in cc
       found_agrees w q (node x b s kids) k v g e =
           agree_up dig w b (dig k b) s q k g.0 g.2 (found_agrees (b + 1) (upd (dig s) b (dig k b)) (kids (dig k b)) k v (g.3 (dig k b) (dl k b)) e)
 
       -- so a key with another digit is not found
-      pub not_found : (w : ℕ) (q : ℕ → ℕ) (t : Tree A) (k i : ℕ) → Good dig D w q t → i < w → dig k i ≢ q i → find dig k t ≡ none
+      pub not_found : (w : ℕ) (q : ℕ → ℕ) (t : Tree A) (k i : ℕ) → Good dig D w q t → i < w → dig k i ≢ q i → find dig k t ≡ None
       not_found w q t k i g h n = go (find dig k t) refl
         where
-          go : (r : Option A) → find dig k t ≡ r → find dig k t ≡ none
-          go none e = e
-          go (some v) e = absurd (n (found_agrees w q t k v g e i h))
+          go : (r : Option A) → find dig k t ≡ r → find dig k t ≡ None
+          go None e = e
+          go (Some v) e = absurd (n (found_agrees w q t k v g e i h))

@@ -1,8 +1,8 @@
 -- The trees that a put makes: a value changed, a leaf in an empty place, and a split: a new node over the new leaf and the old target.
 -- Rests on replacing at a place. Assumes nothing.
+use Rattle.std.specs.Prelude.{None}
 use mathlib.Core.Path.{◌≡◌, refl, sym, ap, ◌∙◌}
 use mathlib.Core.Logic.{◌≢◌}
-use mathlib.Core.Option.{none}
 use Prim.Native.Nat.{ℕ, ◌+◌, ◌≤◌, ◌<◌}
 use mathlib.Core.List.{List, [], ◌∷◌}
 use native.Mathlib.Omega.{arith}
@@ -140,5 +140,5 @@ module _ {A : Type 0} (dig : ℕ → ℕ → ℕ) (dl : (k i : ℕ) → dig k i 
       e₂ : ℕ → Tree A
       e₂ = upd e₁ (dig k f) (leaf z k v)
 
-      off : (k' : ℕ) → dig k' f ≢ c → find dig k' t ≡ none
+      off : (k' : ℕ) → dig k' f ≢ c → find dig k' t ≡ None
       off k' h = not_found dig D dl (f + 1) (upd (dig k) f c) t k' f good (omega arith) (λ e. h (e ∙ upd_at (dig k) f c))

@@ -1,7 +1,6 @@
 -- The plain table as a list of entries, keys rising; and the list that a tree is read as.
 -- Assumes nothing.
-use Rattle.std.specs.Prelude.{ℕ, zero, suc, ◌<◌, List, [], ◌∷◌, ◌++◌, eqb}
-use Rattle.std.proofs.Math.Option.{Option, none, some}
+use Rattle.std.specs.Prelude.{ℕ, zero, suc, ◌<◌, List, [], ◌∷◌, ◌++◌, eqb, Option, None, Some}
 use Rattle.digits.specs.Choice.{pick}
 use Rattle.tree.specs.Tree.{Tree, empty, leaf, node}
 
@@ -20,8 +19,8 @@ module _ {A : Type 0} where
 
   -- the value that a list has for a key
   unfoldable pub look : ℕ → List (Entry A) → Option A
-  look k [] = none
-  look k (e ∷ l) = pick (eqb k e.key) (some e.value) (look k l)
+  look k [] = None
+  look k (e ∷ l) = pick (eqb k e.key) (Some e.value) (look k l)
 
   -- f 0 to f (n - 1), one after the other
   unfoldable pub cat : ℕ → (ℕ → List (Entry A)) → List (Entry A)

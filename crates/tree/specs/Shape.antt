@@ -1,7 +1,6 @@
 -- What a pool layout has to offer, and what it means that a reference holds a tree. One definition for all node kinds, leaf sizes and key widths.
 -- Assumes nothing.
-use Rattle.std.specs.Prelude.{◌≡◌, ℕ, zero, suc, ◌+◌, ◌≤◌, ◌<◌, true, false, ltb, eqb}
-use Rattle.std.proofs.Math.Option.{Option, none, some}
+use Rattle.std.specs.Prelude.{◌≡◌, ℕ, zero, suc, ◌+◌, ◌≤◌, ◌<◌, true, false, ltb, eqb, Option, None, Some}
 use Rattle.digits.specs.Choice.{pick}
 use Rattle.tree.specs.Tree.{Tree, empty, leaf, node}
 
@@ -69,6 +68,6 @@ module _ (dig : ℕ → ℕ → ℕ) where
   end_of k (node x b s kids) = end_of k (kids (dig k b))
 
 unfoldable pub answer : {A : Type 0} → ℕ → End A → Option A
-answer k at_none = none
-answer k (at_leaf x k' v) = pick (eqb k k') (some v) none
-answer k damage = none
+answer k at_none = None
+answer k (at_leaf x k' v) = pick (eqb k k') (Some v) None
+answer k damage = None

@@ -1,7 +1,6 @@
 -- The tree that a sound pool holds: slots, keys, values and branch places, without references, the depths in headers, or free words.
 -- Assumes nothing.
-use Rattle.std.specs.Prelude.{◌≡◌, ◌≢◌, ℕ, zero, suc, ◌+◌, ◌≤◌, ◌<◌, Bool, true, false, List, [], ◌∷◌, eqb}
-use Rattle.std.proofs.Math.Option.{Option, none, some}
+use Rattle.std.specs.Prelude.{◌≡◌, ◌≢◌, ℕ, zero, suc, ◌+◌, ◌≤◌, ◌<◌, Bool, true, false, List, [], ◌∷◌, eqb, Option, None, Some}
 use Rattle.digits.specs.Choice.{pick}
 
 -- f with a at c
@@ -103,8 +102,8 @@ module _ (dig : ℕ → ℕ → ℕ) where
 
   -- the value that the tree has for k
   unfoldable pub find : {A : Type 0} → ℕ → Tree A → Option A
-  find k empty = none
-  find k (leaf x k' v) = pick (eqb k k') (some v) none
+  find k empty = None
+  find k (leaf x k' v) = pick (eqb k k') (Some v) None
   find k (node x b s kids) = find k (kids (dig k b))
 
   -- D digits in a key: every key of the tree, met at walk depth w, has the first w digits of q, and branches are where they should be

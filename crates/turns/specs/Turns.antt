@@ -1,8 +1,10 @@
 -- What a turn does to the pool and the map, and what it prints.
 -- Assumes nothing.
-use Rattle.std.specs.Prelude.{List, [], ◌∷◌, ◌++◌, ℕ, zero, suc, min, length, get_or, replicate}
-use Rattle.plan.specs.Plans.{all_but_last, the_switch, eadr, Ran, run_of, planned_for}
-use Rattle.plan.specs.declared.Planned.{Planned}
+use Rattle.std.specs.Prelude.{List, [], ◌∷◌, ◌++◌, ℕ, zero, suc, eqb, min, length, get_or, replicate, fold, Result, Ok, Err}
+use Rattle.digits.specs.Choice.{pick}
+use Rattle.refusals.specs.declared.Refusal.{Refusal}
+use Rattle.refusals.specs.declared.Refusal.TheVariants.{Size, Damage, Absent, Full, Outside, Buffers, Retired}
+use Rattle.plan.specs.Plans.{all_but_last, the_switch, eadr, Ran, run_of, planned_for, Planned}
 use Rattle.finding.specs.Lookups.{lookup_of}
 use Rattle.finding.specs.Lookups as found
 use Rattle.listing.specs.Listings.{Shown, list_of}
@@ -58,9 +60,27 @@ leaves (CutDelete n key) m = memory (reopened (delete_cut key m) n m).pool (reop
 leaves Nothing m = m
 leaves (Wrong line) m = m
 
+-- the refusal of a number
+abbrev pub refusal_of : ℕ → Refusal
+refusal_of k =
+    pick (eqb k 1) Size
+    (pick (eqb k 2) Damage
+    (pick (eqb k 3) Absent
+    (pick (eqb k 4) Full
+    (pick (eqb k 5) Outside
+    (pick (eqb k 6) Buffers Retired)))))
+
+-- an answer of the code, by its number and by what it gives where that is 0
+abbrev pub given : {A : Type 0} → ℕ → A → Result A Refusal
+given k a = pick (eqb k 0) (Ok a) (Err (refusal_of k))
+
+-- "P key value prints P, code, stores made.", "D key prints D, code, stores made."
+abbrev pub stores_made : call.Left → Result ℕ Refusal
+stores_made l = given l.done.number l.done.stores
+
 -- "G key prints G, code, value, nodes."
 abbrev pub get_answer : found.Answer → Answer
-get_answer f = print.Get f.number f.value f.nodes
+get_answer f = print.Get (given f.number f.value) f.nodes
 
 -- "L prints L, key, value for each, then E and the count."
 unfoldable pub entries : ℕ → List ℕ → List ℕ → List Answer
@@ -73,12 +93,12 @@ list_answers s = entries (min s.answer.count (min (length s.keys) (length s.valu
 -- "that P or D prints C, its code, stores made, keys, headers rewritten"
 abbrev pub cut_answer : Planned → ℕ → Memory → Answer
 cut_answer planned n m =
-    print.Cut planned.number (cut planned n m).steps (reopened planned n m).answer.keys (reopened planned n m).answer.headers
+    print.Cut (given planned.number tt) (cut planned n m).steps (reopened planned n m).answer.keys (reopened planned n m).answer.headers
 
 -- what a turn prints
 unfoldable pub answers_of : Turn → Memory → List Answer
-answers_of (Put key value) m = print.Put (put key value m).done.number (put key value m).done.stores ∷ []
-answers_of (Delete key) m = print.Delete (delete key m).done.number (delete key m).done.stores ∷ []
+answers_of (Put key value) m = print.Put (stores_made (put key value m)) ∷ []
+answers_of (Delete key) m = print.Delete (stores_made (delete key m)) ∷ []
 answers_of (Get key) m = get_answer (lookup_of m.pool key) ∷ []
 -- from key 0, with buffers of 256
 answers_of Listing m = list_answers (list_of m.pool 0 (replicate 256 0) (replicate 256 0))
@@ -88,9 +108,8 @@ answers_of Nothing m = []
 answers_of (Wrong line) m = print.Wrong line ∷ []
 
 -- answers go onto a page one after the other
-unfoldable pub printed : List Answer → Page → Page
-printed [] p = p
-printed (a ∷ answers) p = printed answers (written (text_of a) p)
+abbrev pub printed : List Answer → Page → Page
+printed answers p = fold (λ q a. written (text_of a) q) p answers
 
 -- what the turns act on, and the page
 pub record Acted : Type 0 where

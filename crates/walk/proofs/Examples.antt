@@ -1,5 +1,6 @@
 -- Headers, walks, lowest leaves and children by computation.
 -- Assumes nothing.
+use Rattle.std.specs.Prelude.{Err, None, Ok, Some}
 use mathlib.Core.Path.{◌≡◌, refl}
 use mathlib.Core.List.{List, ◌∷◌, ◌++◌}
 use Prim.Native.Nat.{ℕ, ◌≤◌}
@@ -7,27 +8,26 @@ use borrow.Author.Tests.{le-ltb}
 use lib.ListN.{replicate}
 use Rattle.digits.specs.Loops.{scan, tally}
 use Rattle.pool.specs.Refs.{ref_of}
-use Rattle.walk.specs.declared.Head.TheVariants.{Branch, Wrong}
 use Rattle.walk.specs.declared.End.TheVariants.{AtLeaf, AtEmpty, Stopped, Damaged}
-use Rattle.walk.specs.declared.Lowest.TheVariants.{Key, NoKey}
+use Rattle.walk.specs.declared.Reason.TheVariants.{Depth}
 use Rattle.walk.specs.Faults.{fault}
 use Rattle.walk.specs.Walks.{head_of, walk_from, walk_to, walk_of, children_of, lowest_child, other_child, lowest_from, lowest_of}
 
 -- "Header with depth 8, length 8 (b = 16): damage; depth 8, length 7 is accepted at w <= 8."
-past_the_key : head_of 0 0x0808000000000000 ≡ Wrong
+past_the_key : head_of 0 0x0808000000000000 ≡ None
 unfolding head_of
 past_the_key = refl
 
-last_digit : (w : ℕ) → w ≤ 8 → head_of w 0x0807000000000000 ≡ Branch 15
+last_digit : (w : ℕ) → w ≤ 8 → head_of w 0x0807000000000000 ≡ Some 15
 unfolding head_of
 last_digit w h = rw (le-ltb 8 w h)
 
-too_deep : head_of 9 0x0807000000000000 ≡ Wrong
+too_deep : head_of 9 0x0807000000000000 ≡ None
 unfolding head_of
 too_deep = refl
 
 -- added in 8 bits 250 + 10 would be 4
-added_wide : head_of 0 0xfa0a000000000000 ≡ Wrong
+added_wide : head_of 0 0xfa0a000000000000 ≡ None
 unfolding head_of
 added_wide = refl
 
@@ -66,19 +66,19 @@ walk_past_stale : walk_of stale 3 0x202 ≡ AtLeaf (record { at = 11; depth = 16
 unfolding walk_from ref_of head_of
 walk_past_stale = refl
 
-walk_damaged : walk_of damaged 3 0x202 ≡ Damaged 1 (fault 8 2)
+walk_damaged : walk_of damaged 3 0x202 ≡ Damaged 1 (fault 8 Depth)
 unfolding walk_from ref_of head_of
 walk_damaged = refl
 
-lowest_below_root : lowest_of straight 3 0 1 1026 ≡ Key 0x200
+lowest_below_root : lowest_of straight 3 0 1 1026 ≡ Ok 0x200
 unfolding lowest_from ref_of head_of scan
 lowest_below_root = refl
 
-lowest_below_stale : lowest_of stale 3 0 1 1025 ≡ Key 0x200
+lowest_below_stale : lowest_of stale 3 0 1 1025 ≡ Ok 0x200
 unfolding lowest_from ref_of head_of scan
 lowest_below_stale = refl
 
-lowest_damaged : lowest_of damaged 3 0 1 1026 ≡ NoKey (fault 8 2)
+lowest_damaged : lowest_of damaged 3 0 1 1026 ≡ Err (fault 8 Depth)
 unfolding lowest_from ref_of head_of scan
 lowest_damaged = refl
 

@@ -1,5 +1,6 @@
 -- What a reference met on the way down comes to: no node, a node with a wrong header, or a node whose header is accepted.
 -- Assumes nothing.
+use Rattle.std.specs.Prelude.{None, Option, Some}
 use mathlib.Core.Path.{◌≡◌, refl, sym, ◌∙◌}
 use mathlib.Core.Bool.{Bool, true, false}
 use mathlib.Core.List.{List}
@@ -15,8 +16,6 @@ use Rattle.pool.specs.Refs.{ref_of, Within}
 use Rattle.pool.specs.declared.Ref.{Ref}
 use Rattle.pool.specs.declared.Ref.TheVariants.{Empty, Leaf, Node, Bad}
 use Rattle.pool.proofs.Refs.{within}
-use Rattle.walk.specs.declared.Head.{Head}
-use Rattle.walk.specs.declared.Head.TheVariants.{Branch, Wrong}
 use Rattle.walk.specs.Walks.{head_of, Between}
 use Rattle.walk.specs.Ends.{Accepted}
 
@@ -28,29 +27,29 @@ between w word = go (ltb (depth_of word) w) refl (ltb 15 (length_of word)) (ltb 
     b : ℕ
     b = depth_of word + length_of word
 
-    go : (t : Bool) → ltb (depth_of word) w ≡ t → (u v : Bool) → ltb 15 b ≡ v → Between w (pick t Wrong (pick u Wrong (pick v Wrong (Branch b))))
+    go : (t : Bool) → ltb (depth_of word) w ≡ t → (u v : Bool) → ltb 15 b ≡ v → Between w (pick t None (pick u None (pick v None (Some b))))
     go true e u v f = tt
     go false e true v f = tt
     go false e false true f = tt
     go false e false false f = omega (arith, ltb-false (depth_of word) w e, ltb-false 15 b f)
 
 -- a branch place over 15 is damage, whatever the length
-pub too_deep : (w word : ℕ) → 15 < depth_of word + length_of word → head_of w word ≡ Wrong
+pub too_deep : (w word : ℕ) → 15 < depth_of word + length_of word → head_of w word ≡ None
 unfolding head_of
 too_deep w word h = rw (lt-ltb 15 (depth_of word + length_of word) h) (go (ltb (depth_of word) w) (ltb 15 (length_of word)))
   where
-    go : (t u : Bool) → pick t Wrong (pick u Wrong Wrong) ≡ Wrong
+    go : (t u : Bool) → ◌≡◌ {A = Option ℕ} (pick t None (pick u None None)) None
     go true u = refl
     go false true = refl
     go false false = refl
 
 -- a header that a walk accepts fits a key
-pub header_fits : (w word : ℕ) {h : Head} {b : ℕ} → h ≡ head_of w word → h ≡ Branch b → depth_of word + length_of word < 16
+pub header_fits : (w word : ℕ) {h : Option ℕ} {b : ℕ} → h ≡ head_of w word → h ≡ Some b → depth_of word + length_of word < 16
 header_fits w word {b = b} e q =
     elim (dec_lt (depth_of word + length_of word) 16) [
       | yes l ↦ l
       | no g ↦
-          let z : Wrong ≡ Branch b = sym (too_deep w word (omega arith)) ∙ sym e ∙ q in
+          let z : None ≡ Some b = sym (too_deep w word (omega arith)) ∙ sym e ∙ q in
           let o : ◌≡◌ {A = ℕ} 0 1 = cc in
           absurd (omega arith)
     ]
@@ -75,7 +74,7 @@ low_no_node n r h = rw (le-leb r 1024 h) (go (eqb r 0) (ltb (r - 1) n))
 -- the reference r, met at walk depth w, is to node j, and its header is refused
 pub record Refused (pool : List ℕ) (n w r j : ℕ) : Type 0 where
   pub refers : ref_of n r ≡ Node j
-  pub head : head_of w (header_at pool n j) ≡ Wrong
+  pub head : head_of w (header_at pool n j) ≡ None
 
 -- what the reference r, met at walk depth w, comes to
 pub data Met (pool : List ℕ) (n w r : ℕ) : Type 0 where
@@ -86,9 +85,9 @@ pub data Met (pool : List ℕ) (n w r : ℕ) : Type 0 where
 pub met : (pool : List ℕ) (n w r : ℕ) → Met pool n w r
 met pool n w r = at_ref (ref_of n r) refl (within n r)
   where
-    at_head : (j : ℕ) → ref_of n r ≡ Node j → j + 1 < n → (h : Head) → head_of w (header_at pool n j) ≡ h → Between w h → Met pool n w r
-    at_head j e l (Branch b) f g = node j b (record { refers = e; j< = l; head = f; w≤b = g.0; b< = g.1 })
-    at_head j e l Wrong f g = wrong j (record { refers = e; head = f })
+    at_head : (j : ℕ) → ref_of n r ≡ Node j → j + 1 < n → (h : Option ℕ) → head_of w (header_at pool n j) ≡ h → Between w h → Met pool n w r
+    at_head j e l (Some b) f g = node j b (record { refers = e; j< = l; head = f; w≤b = g.0; b< = g.1 })
+    at_head j e l None f g = wrong j (record { refers = e; head = f })
 
     at_ref : (x : Ref) → ref_of n r ≡ x → Within n x → Met pool n w r
     at_ref Empty e l = no_node Empty e tt tt
@@ -103,13 +102,13 @@ unmatched (Leaf i) h = tt
 unmatched (Node j) h = absurd (h j refl)
 unmatched Bad h = tt
 
-module _ (pool : List ℕ) (n w r : ℕ) {x : Ref} {y : Head} {j h : ℕ} (e : x ≡ ref_of n r) (f : x ≡ Node j) (g : h ≡ header_at pool n j) (k : y ≡ head_of w h) where
+module _ (pool : List ℕ) (n w r : ℕ) {x : Ref} {y : Option ℕ} {j h : ℕ} (e : x ≡ ref_of n r) (f : x ≡ Node j) (g : h ≡ header_at pool n j) (k : y ≡ head_of w h) where
   -- or a node whose header is refused
-  pub refused : y ≡ Wrong → Refused pool n w r j
+  pub refused : y ≡ None → Refused pool n w r j
   refused m = record { refers = sym e ∙ f; head = rw (← g, ← k) m }
 
   -- or one whose header is accepted
-  pub accepted : {b : ℕ} → Within n x → Between w y → y ≡ Branch b → Accepted pool n w r j b
+  pub accepted : {b : ℕ} → Within n x → Between w y → y ≡ Some b → Accepted pool n w r j b
   accepted i l m =
       let u = rw m at l in
       record { refers = sym e ∙ f; j< = rw f at i; head = rw (← g, ← k) m; w≤b = u.0; b< = u.1 }

@@ -4,5 +4,6 @@ pub mod Walks
 pub mod Ends
 pub mod Counts
 pub mod Nodes
+pub mod Places
 pub mod LowestLeaf
 pub mod Examples

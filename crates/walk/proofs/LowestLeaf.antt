@@ -1,5 +1,6 @@
 -- The lowest leaf below a reference, one turn at a time; the bound on the nodes met is not seen.
 -- Assumes nothing.
+use Rattle.std.specs.Prelude.{Err}
 use mathlib.Core.Path.{◌≡◌, sym, ◌∙◌}
 use mathlib.Core.List.{List}
 use Prim.Native.Nat.{ℕ, zero, suc, ◌+◌, ◌≤◌, ◌<◌}
@@ -10,7 +11,6 @@ use Rattle.pool.specs.Places.{node_word, header_at, child_at, child_word}
 use Rattle.pool.specs.Refs.{ref_of}
 use Rattle.pool.specs.declared.Ref.{Ref}
 use Rattle.pool.specs.declared.Ref.TheVariants.{Empty, Leaf, Node, Bad}
-use Rattle.walk.specs.declared.Lowest.TheVariants.{NoKey}
 use Rattle.walk.specs.Faults.{bad_header, bad_form}
 use Rattle.walk.specs.Walks.{lowest_child, lowest_end, lowest_from}
 use Rattle.walk.specs.Ends.{Accepted}
@@ -25,12 +25,12 @@ module _ (pool : List ℕ) (n : ℕ) where
   lowest_ends f w at r (Node j) e h = absurd h
   lowest_ends f w at r Bad e h = rw (e, lowest_from)
 
-  pub lowest_damaged : (f w at r j : ℕ) → Refused pool n w r j → lowest_from (suc f) pool n w at r ≡ NoKey (bad_header n j w (header_at pool n j))
+  pub lowest_damaged : (f w at r j : ℕ) → Refused pool n w r j → lowest_from (suc f) pool n w at r ≡ Err (bad_header n j w (header_at pool n j))
   unfolding lowest_from
   lowest_damaged f w at r j a = rw (a.refers, a.head, lowest_from)
 
   pub lowest_childless : (f w at r j b : ℕ) → Accepted pool n w r j b → 16 ≤ lowest_child pool n j
-      → lowest_from (suc f) pool n w at r ≡ NoKey (bad_form (node_word n j))
+      → lowest_from (suc f) pool n w at r ≡ Err (bad_form (node_word n j))
   unfolding lowest_from
   lowest_childless f w at r j b a l = rw (a.refers, a.head, le-ltb (lowest_child pool n j) 16 l, lowest_from)
 

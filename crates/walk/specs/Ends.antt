@@ -1,11 +1,10 @@
 -- What is true at the end of every walk in a pool of n leaves, whatever its words are: the walk stands inside the pool.
 -- Assumes nothing.
-use Rattle.std.specs.Prelude.{◌≡◌, List, ℕ, ◌+◌, ◌-◌, ◌*◌, ◌≤◌, ◌<◌}
+use Rattle.std.specs.Prelude.{◌≡◌, List, ℕ, ◌+◌, ◌-◌, ◌*◌, ◌≤◌, ◌<◌, Some}
 use Rattle.pool.specs.Places.{word_at, header_at, child_word}
 use Rattle.pool.specs.Refs.{ref_of, Within}
 use Rattle.pool.specs.declared.Ref.{Ref}
 use Rattle.pool.specs.declared.Ref.TheVariants.{Empty, Leaf, Node}
-use Rattle.walk.specs.declared.Head.TheVariants.{Branch}
 use Rattle.walk.specs.declared.Spot.{Spot}
 use Rattle.walk.specs.declared.End.{End}
 use Rattle.walk.specs.declared.End.TheVariants.{AtLeaf, AtEmpty, Stopped, Damaged}
@@ -15,7 +14,7 @@ use Rattle.walk.specs.Walks.{head_of, root}
 pub record Accepted (pool : List ℕ) (n w r j b : ℕ) : Type 0 where
   pub refers : ref_of n r ≡ Node j
   pub j< : j + 1 < n
-  pub head : head_of w (header_at pool n j) ≡ Branch b
+  pub head : head_of w (header_at pool n j) ≡ Some b
   pub w≤b : w ≤ b
   pub b< : b < 16
 

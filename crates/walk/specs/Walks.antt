@@ -1,6 +1,6 @@
 -- The walk along a key, the lowest leaf below a reference, and a node's children, in a pool of n leaves.
 -- Assumes nothing.
-use Rattle.std.specs.Prelude.{Bool, true, false, not, List, ℕ, zero, suc, ◌+◌, ◌≤◌, ◌<◌, eqb, leb, ltb}
+use Rattle.std.specs.Prelude.{Bool, true, false, not, List, ℕ, zero, suc, ◌+◌, ◌≤◌, ◌<◌, eqb, leb, ltb, Err, None, Ok, Option, Result, Some}
 use Rattle.digits.specs.Choice.{pick}
 use Rattle.digits.specs.Loops.{scan, tally}
 use Rattle.digits.specs.Digits.{digit_of}
@@ -9,27 +9,24 @@ use Rattle.pool.specs.Places.{word_at, key_at, header_at, child_at, node_word, c
 use Rattle.pool.specs.Refs.{ref_of}
 use Rattle.pool.specs.declared.Ref.{Ref}
 use Rattle.pool.specs.declared.Ref.TheVariants.{Empty, Leaf, Node, Bad}
-use Rattle.walk.specs.declared.Head.{Head}
-use Rattle.walk.specs.declared.Head.TheVariants.{Branch, Wrong}
+use Rattle.walk.specs.declared.Fault.{Fault}
 use Rattle.walk.specs.declared.Spot.{Spot}
 use Rattle.walk.specs.declared.End.{End}
 use Rattle.walk.specs.declared.End.TheVariants.{AtLeaf, AtEmpty, Stopped, Damaged}
-use Rattle.walk.specs.declared.Lowest.{Lowest}
-use Rattle.walk.specs.declared.Lowest.TheVariants.{Key, NoKey}
 use Rattle.walk.specs.Faults.{out_of_range, bad_header, bad_form}
 
 -- "At a node with depth h it is damage if h < w, length > 15 or b > 15." "The branch place b is depth + length"
-unfoldable pub head_of : ℕ → ℕ → Head
+unfoldable pub head_of : ℕ → ℕ → Option ℕ
 head_of w word =
-    pick (ltb (depth_of word) w) Wrong
-    (pick (ltb 15 (length_of word)) Wrong
-    (pick (ltb 15 (depth_of word + length_of word)) Wrong
-    (Branch (depth_of word + length_of word))))
+    pick (ltb (depth_of word) w) None
+    (pick (ltb 15 (length_of word)) None
+    (pick (ltb 15 (depth_of word + length_of word)) None
+    (Some (depth_of word + length_of word))))
 
 -- an accepted branch place lies between the walk depth and 15
-abbrev pub Between : ℕ → Head → Type 0
-Between w (Branch b) = (w ≤ b) × (b < 16)
-Between w Wrong = Unit {0}
+abbrev pub Between : ℕ → Option ℕ → Type 0
+Between w (Some b) = (w ≤ b) × (b < 16)
+Between w None = Unit {0}
 
 -- "It begins at the root reference with walk depth w = 0."
 abbrev pub root : Spot
@@ -71,12 +68,12 @@ walk_from (suc more) pool n key test s =
       | Leaf i ↦ end_of s (Leaf i)
       | Node j ↦
           elim (head_of s.depth (header_at pool n j)) [
-            | Branch b ↦
+            | Some b ↦
                 elim (test key (header_at pool n j) b) [
                   | true ↦ Stopped s j b
                   | false ↦ walk_from more pool n key test (below n j b (digit_of key b) s)
                 ]
-            | Wrong ↦ Damaged s.nodes (bad_header n j s.depth (header_at pool n j))
+            | None ↦ Damaged s.nodes (bad_header n j s.depth (header_at pool n j))
           ]
       | Bad ↦ end_of s Bad
     ]
@@ -100,6 +97,10 @@ is_child pool n j c = not (eqb (child_at pool n j c) 0)
 abbrev pub children_of : List ℕ → ℕ → ℕ → ℕ
 children_of pool n j = tally 16 (is_child pool n j)
 
+-- a child's place of the code's: none for 16
+abbrev pub place_of : ℕ → Option ℕ
+place_of c = pick (ltb c 16) (Some c) None
+
 -- the lowest child of node j, 16 for none
 abbrev pub lowest_child : List ℕ → ℕ → ℕ → ℕ
 lowest_child pool n j = scan 16 0 (is_child pool n j)
@@ -109,31 +110,31 @@ abbrev pub other_child : List ℕ → ℕ → ℕ → ℕ → ℕ
 other_child pool n j at = scan 16 0 (λ c. pick (eqb (child_word n j c) at) false (is_child pool n j c))
 
 -- the key of a way down that has come, by the reference in the word `at`, to no node
-abbrev pub lowest_end : List ℕ → ℕ → Ref → Lowest
-lowest_end pool at Empty = NoKey (out_of_range at)
-lowest_end pool at (Leaf i) = Key (key_at pool i)
-lowest_end pool at (Node j) = NoKey (out_of_range at)
-lowest_end pool at Bad = NoKey (out_of_range at)
+abbrev pub lowest_end : List ℕ → ℕ → Ref → Result ℕ Fault
+lowest_end pool at Empty = Err (out_of_range at)
+lowest_end pool at (Leaf i) = Ok (key_at pool i)
+lowest_end pool at (Node j) = Err (out_of_range at)
+lowest_end pool at Bad = Err (out_of_range at)
 
 -- "'Lowest leaf' below a reference means following the lowest non-empty child each time, under the walk's damage rules; a childless node is
 -- damage." The reference r, in the word `at`, is met at walk depth w.
-unfoldable pub lowest_from : ℕ → List ℕ → ℕ → ℕ → ℕ → ℕ → Lowest
-lowest_from zero pool n w at r = NoKey (bad_form at)
+unfoldable pub lowest_from : ℕ → List ℕ → ℕ → ℕ → ℕ → ℕ → Result ℕ Fault
+lowest_from zero pool n w at r = Err (bad_form at)
 lowest_from (suc more) pool n w at r =
     elim (ref_of n r) [
       | Empty ↦ lowest_end pool at Empty
       | Leaf i ↦ lowest_end pool at (Leaf i)
       | Node j ↦
           elim (head_of w (header_at pool n j)) [
-            | Branch b ↦
+            | Some b ↦
                 elim (ltb (lowest_child pool n j) 16) [
                   | true ↦ lowest_from more pool n (b + 1) (child_word n j (lowest_child pool n j)) (child_at pool n j (lowest_child pool n j))
-                  | false ↦ NoKey (bad_form (node_word n j))
+                  | false ↦ Err (bad_form (node_word n j))
                 ]
-            | Wrong ↦ NoKey (bad_header n j w (header_at pool n j))
+            | None ↦ Err (bad_header n j w (header_at pool n j))
           ]
       | Bad ↦ lowest_end pool at Bad
     ]
 
-abbrev pub lowest_of : List ℕ → ℕ → ℕ → ℕ → ℕ → Lowest
+abbrev pub lowest_of : List ℕ → ℕ → ℕ → ℕ → ℕ → Result ℕ Fault
 lowest_of pool n w at r = lowest_from 17 pool n w at r

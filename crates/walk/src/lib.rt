@@ -2,71 +2,87 @@
 #![tactic(auto)]
 
 ghost use Rattle.std.specs.Prelude.{◌≡◌, ◌+◌, ◌<◌, ◌≤◌};
-ghost use Rattle.pool.specs.Sizes.{Sized};
+ghost use Rattle.refusals.specs.declared.Refusal.TheVariants.{Damage};
 ghost use Rattle.pool.specs.Refs.{Within};
-ghost use Rattle.walk.specs.Faults.{bad_header};
-ghost use Rattle.walk.specs.Walks.{head_of, Between, root, below, end_of, walk_to, walk_of, children_of, lowest_child, other_child, lowest_end, lowest_of};
+ghost use Rattle.walk.specs.Faults.{out_of_range, bad_header};
+ghost use Rattle.walk.specs.Walks.{head_of, Between, root, below, end_of, walk_to, walk_of, children_of, place_of, lowest_child, other_child, lowest_of};
 
 use digits::Header;
-use pool::Ref;
+use pool::{Pool, Ref};
+use refusals::Refusal;
 
-// What a header says to a walk: the branch place, or damage.
-#[derive(Clone, Copy)]
-pub enum Head {
-    Branch(usize),
-    Wrong,
-}
-
-// A header word met at walk depth w. Depth and length are added wide: in 8 bits 250 + 10 would be 4. A length over 15 makes b over 15 too.
-pub fn accept(w: usize, word: u64) -> Head
+// The branch place that a header word says, if a walk that meets it at depth w accepts it. Depth and length are added wide: in 8 bits 250 + 10
+// would be 4. A length over 15 makes b over 15 too.
+pub fn accept(w: usize, word: u64) -> Option<usize>
     ensures { (result ≡ head_of w word) × Between w result }
 {
-    let h = Header::unpack(word);
-    let depth = h.depth;
-    let length = h.length;
+    let Header { depth, length } = Header::unpack(word);
     if depth < w {
-        return Head::Wrong;
+        return None;
     }
     let b = depth + length;
     if 15 < b {
-        return Head::Wrong;
+        return None;
     }
-    Head::Branch(b)
+    Some(b)
+}
+
+// Why a word is damage.
+#[derive(Clone, Copy, PartialEq, Eq)]
+pub enum Reason {
+    // A reference out of range.
+    Range = 1,
+    // A header with too small a depth.
+    Depth = 2,
+    // A header with too large a branch place.
+    Branch = 3,
+    // All else.
+    Form = 4,
 }
 
 // Where damage was met and why: a word of the pool, and a reason.
-#[derive(Clone, Copy)]
+#[derive(Clone, Copy, PartialEq, Eq)]
 pub struct Fault {
     pub word: usize,
-    pub reason: u64,
+    pub reason: Reason,
 }
 
 impl Fault {
-    // The reasons: a reference out of range, a header with too small a depth or with too large a branch place, all else.
-    pub const RANGE: u64 = 1;
-
-    pub const DEPTH: u64 = 2;
-
-    pub const BRANCH: u64 = 3;
-
-    pub const FORM: u64 = 4;
+    // The reference in a word is out of range.
+    fn out_of_range(word: usize) -> Fault
+        ensures { result ≡ out_of_range word }
+    {
+        Fault {
+            word,
+            reason: Reason::Range,
+        }
+    }
 
     // Why node j is refused at walk depth w: its header, which `accept` did not take.
     pub fn bad_header(n: usize, j: usize, w: usize, header: u64) -> Fault
         requires { (n ≤ 1024) × (j < 1024) }
         ensures { result ≡ bad_header n j w header }
     {
-        let word = pool::node_word(n, j);
-        if Header::unpack(header).depth < w {
-            return Fault {
-                word,
-                reason: Fault::DEPTH,
-            };
-        }
+        let reason = if Header::unpack(header).depth < w {
+            Reason::Depth
+        } else {
+            Reason::Branch
+        };
         Fault {
-            word,
-            reason: Fault::BRANCH,
+            word: pool::node_word(n, j),
+            reason,
         }
+    }
+}
+
+// A call that meets damage, wherever and of whatever kind, is refused for it.
+impl From<Fault> for Refusal {
+    ghost from_gives = { λ _ r. r ≡ Damage };
+
+    fn from(_fault: Fault) -> Refusal
+        ensures { result ≡ Damage }
+    {
+        Refusal::Damage
     }
 }
 
@@ -126,32 +142,27 @@ pub enum End {
 fn ended(s: Spot, r: Ref) -> End
     ensures { result ≡ end_of s r }
 {
-    let fault = Fault {
-        word: s.at,
-        reason: Fault::RANGE,
-    };
     match r {
         Ref::Empty => End::AtEmpty(s),
         Ref::Leaf(i) => End::AtLeaf(s, i),
-        Ref::Node(_) => End::Damaged(s.nodes, fault),
-        Ref::Bad => End::Damaged(s.nodes, fault),
+        Ref::Node(_) | Ref::Bad => End::Damaged(s.nodes, Fault::out_of_range(s.at)),
     }
 }
 
 // The walk along a key, but it stops before the first node that branches at or past `stop`.
-pub fn walk_to(pool: &[u64], n: usize, key: u64, stop: usize) -> End
-    requires { Sized pool.now n }
-    ensures { result ≡ walk_to pool.now n key stop }
+pub fn walk_to(pool: &Pool, key: u64, stop: usize) -> End
+    ensures { result ≡ walk_to pool.now.words.now pool.now.n key stop }
 {
+    let n = pool.n;
     let mut s = Spot::root();
     loop {
         let at = s.at;
-        let r = pool::reference(n, pool[at]);
+        let r = pool::reference(n, pool.words[at]);
         let Ref::Node(j) = r else {
             return ended(s, r);
         };
-        let header = pool::header(pool, n, j);
-        let Head::Branch(b) = accept(s.depth, header) else {
+        let header = pool.header(j);
+        let Some(b) = accept(s.depth, header) else {
             return End::Damaged(s.nodes, Fault::bad_header(n, j, s.depth, header));
         };
         if stop <= b {
@@ -162,111 +173,71 @@ pub fn walk_to(pool: &[u64], n: usize, key: u64, stop: usize) -> End
 }
 
 // The walk along a key: no node branches at 16.
-pub fn walk(pool: &[u64], n: usize, key: u64) -> End
-    requires { Sized pool.now n }
-    ensures { result ≡ walk_of pool.now n key }
+pub fn walk(pool: &Pool, key: u64) -> End
+    ensures { result ≡ walk_of pool.now.words.now pool.now.n key }
 {
-    walk_to(pool, n, key, Header::DIGITS)
+    walk_to(pool, key, Header::DIGITS)
 }
 
 // How many children node j has.
-pub fn children(pool: &[u64], n: usize, j: usize) -> usize
-    requires { Sized pool.now n × (j + 1 < n) }
-    ensures { result ≡ children_of pool.now n j }
+pub fn children(pool: &Pool, j: usize) -> usize
+    requires { j + 1 < pool.now.n }
+    ensures { result ≡ children_of pool.now.words.now pool.now.n j }
 {
-    let mut count: usize = 0;
-    let mut c: usize = 0;
-    while c < Header::CHILDREN {
-        if pool::child(pool, n, j, c) != 0 {
-            count += 1;
-        }
-        c += 1;
+    let mut count = 0;
+    for r in pool.children(j) {
+        count += usize::from(*r != 0); // no branch: so it is compiled to wide compares, which a filter's count is not
     }
     count
 }
 
-// The lowest child of node j, 16 for none.
-pub fn lowest_child(pool: &[u64], n: usize, j: usize) -> usize
-    requires { Sized pool.now n × (j + 1 < n) }
-    ensures { result ≡ lowest_child pool.now n j }
+// The lowest child of node j.
+pub fn lowest_child(pool: &Pool, j: usize) -> Option<usize>
+    requires { j + 1 < pool.now.n }
+    ensures { result ≡ place_of (lowest_child pool.now.words.now pool.now.n j) }
 {
-    let mut lowest: usize = 0;
-    while lowest < Header::CHILDREN {
-        if pool::child(pool, n, j, lowest) != 0 {
-            return lowest;
-        }
-        lowest += 1;
-    }
-    lowest
+    pool.children(j).iter().position(|r| *r != 0)
 }
 
-// The lowest child of node j but the one at the word `at`, 16 for none.
-pub fn other_child(pool: &[u64], n: usize, j: usize, at: usize) -> usize
-    requires { Sized pool.now n × (j + 1 < n) }
-    ensures { result ≡ other_child pool.now n j at }
+// The lowest child of node j but the one at the word `at`.
+pub fn other_child(pool: &Pool, j: usize, at: usize) -> Option<usize>
+    requires { j + 1 < pool.now.n }
+    ensures { result ≡ place_of (other_child pool.now.words.now pool.now.n j at) }
 {
-    let mut other: usize = 0;
-    while other < Header::CHILDREN {
-        if pool::node_word(n, j) + 1 + other != at {
-            if pool::child(pool, n, j, other) != 0 {
-                return other;
-            }
-        }
-        other += 1;
-    }
-    other
+    let first = pool::node_word(pool.n, j) + 1;
+    pool.children(j)
+        .iter()
+        .enumerate()
+        .position(|(c, r)| first + c != at && *r != 0)
 }
 
-// The key of a lowest leaf, or damage on the way to it, with its word and reason.
-#[derive(Clone, Copy)]
-pub enum Lowest {
-    Key(u64),
-    NoKey(Fault),
-}
-
-// The key of the lowest leaf below the reference r, which stands in a word, for naming alone, and is met at walk depth w.
-pub fn lowest_leaf(pool: &[u64], n: usize, w: usize, word: usize, r: u64) -> Lowest
-    requires { Sized pool.now n × (w ≤ 16) }
-    ensures { result ≡ lowest_of pool.now n w word r }
+// The key of the lowest leaf below the reference r, which stands in a word, for naming alone, and is met at walk depth w; or damage on the way to it.
+pub fn lowest_leaf(pool: &Pool, w: usize, word: usize, r: u64) -> Result<u64, Fault>
+    requires { w ≤ 16 }
+    ensures { result ≡ lowest_of pool.now.words.now pool.now.n w word r }
 {
+    let n = pool.n;
     let mut depth = w;
     let mut at = word;
     let mut x = r;
     loop {
-        let s = pool::reference(n, x);
-        let Ref::Node(j) = s else {
-            return lowest_end(pool, n, at, s);
+        let j = match pool::reference(n, x) {
+            Ref::Node(j) => j,
+            Ref::Leaf(i) => return Ok(pool.leaf_key(i)),
+            Ref::Empty | Ref::Bad => return Err(Fault::out_of_range(at)),
         };
-        let header = pool::header(pool, n, j);
-        let Head::Branch(b) = accept(depth, header) else {
-            return Lowest::NoKey(Fault::bad_header(n, j, depth, header));
+        let header = pool.header(j);
+        let Some(b) = accept(depth, header) else {
+            return Err(Fault::bad_header(n, j, depth, header));
         };
-        let c = lowest_child(pool, n, j);
-        if Header::CHILDREN <= c {
-            return Lowest::NoKey(Fault {
+        let Some(c) = lowest_child(pool, j) else {
+            return Err(Fault {
                 word: pool::node_word(n, j),
-                reason: Fault::FORM,
+                reason: Reason::Form,
             });
-        }
+        };
         depth = b + 1;
         at = pool::node_word(n, j) + 1 + c;
-        x = pool::child(pool, n, j, c);
-    }
-}
-
-// The key of a way down that has come, by the reference in a word, to no node.
-fn lowest_end(pool: &[u64], n: usize, at: usize, r: Ref) -> Lowest
-    requires { Sized pool.now n × Within n r }
-    ensures { result ≡ lowest_end pool.now at r }
-{
-    let fault = Fault {
-        word: at,
-        reason: Fault::RANGE,
-    };
-    match r {
-        Ref::Leaf(i) => Lowest::Key(pool::leaf_key(pool, n, i)),
-        Ref::Empty => Lowest::NoKey(fault),
-        Ref::Node(_) => Lowest::NoKey(fault),
-        Ref::Bad => Lowest::NoKey(fault),
+        x = pool.child(j, c);
     }
 }

@@ -1,5 +1,6 @@
 -- Whole calls: plan, all stores in order, finish; a refusal leaves everything as it was.
 -- Assumes nothing.
+use Rattle.std.specs.Prelude.{None, Option, Some}
 use mathlib.Core.Path.{◌≡◌, refl, sym, ap, ◌∙◌}
 use mathlib.Core.Logic.{inl, inr}
 use mathlib.Core.Bool.{Bool, true, false}
@@ -12,10 +13,7 @@ use lib.Dec.{eqb, ltb}
 use lib.ListN.{length, set, replicate, length-set, length-replicate}
 use Rattle.digits.specs.Choice.{pick}
 use Rattle.tree.proofs.Basics.{Same?, same, other, same?}
-use Rattle.pool.specs.Sizes.{size_of, capacity_of, bytes_of, Sized}
-use Rattle.pool.specs.declared.Size.{Size}
-use Rattle.pool.specs.declared.Size.TheVariants.{Holds, Wrong}
-use Rattle.pool.proofs.Sizes.{size_fits}
+use Rattle.pool.specs.Sizes.{size_of, capacity_of, bytes_of}
 use Rattle.plan.specs.Plans.{Decided}
 use Rattle.plan.proofs.Laws.{length_made}
 use Rattle.finishing.proofs.Laws.{length_finish}
@@ -67,16 +65,12 @@ module _ (pool map : List ℕ) (k : ℕ) where
   abbrev pub delete_mapped : Decided
   delete_mapped = mapped_of map (capacity_of pool) (delete_plan pool k)
 
-  module _ {z : Size} (size : z ≡ capacity_of pool) where
-    pub delete_unsized_whole : z ≡ Wrong → left (done 1 0) pool map ≡ delete_of pool map k
+  module _ {z : Option ℕ} (size : z ≡ capacity_of pool) where
+    pub delete_unsized_whole : z ≡ None → left (done 1 0) pool map ≡ delete_of pool map k
     unfolding delete_of
     delete_unsized_whole h = rw (← size, h)
 
-    module _ {n : ℕ} (holds : z ≡ Holds n) where
-      pub delete_unmapped : (length map ≡ bytes_of n → ⊥) → left (done 1 0) pool map ≡ delete_of pool map k
-      unfolding delete_of
-      delete_unmapped h = rw (← size, holds, ne_eqb (length map) (bytes_of n) h)
-
+    module _ {n : ℕ} (holds : z ≡ Some n) where
       -- a map of the right length leaves the plan as it is
       pub delete_mapped_lem : length map ≡ bytes_of n → delete_mapped ≡ delete_plan pool k
       delete_mapped_lem h = rw (← size, holds, eq-eqb (length map) (bytes_of n) h)
@@ -99,33 +93,15 @@ module _ (pool map : List ℕ) (k : ℕ) where
 
 -- ---- format
 -- a run that is to hold n leaves holds n, or its size is wrong
-pub size_same : (words n m : ℕ) → Holds m ≡ size_of words n → m ≡ n
+pub size_same : (words n m : ℕ) → Some m ≡ size_of words n → m ≡ n
 unfolding size_of
 size_same words n m e = go (ltb n 1) (ltb 1024 n) (eqb words (19 * n - 15)) e
   where
-    go : (a b c : Bool) → Holds m ≡ pick a Wrong (pick b Wrong (pick c (Holds n) Wrong)) → m ≡ n
+    go : (a b c : Bool) → Some m ≡ pick a None (pick b None (pick c (Some n) None)) → m ≡ n
     go true b c e = cc
     go false true c e = cc
     go false false true e = cc
     go false false false e = cc
-
-module _ (pool map : List ℕ) (n : ℕ) {z : Size} (size : z ≡ size_of (length pool) n) where
-  pub format_unsized : z ≡ Wrong → formatted 1 pool map ≡ format_of pool map n
-  unfolding format_of
-  format_unsized h = rw (← size, h)
-
-  module _ {m : ℕ} (holds : z ≡ Holds m) where
-    pub format_sized : Sized pool m
-    format_sized = rw (← size, holds) at (size_fits pool n)
-
-    pub format_unmapped : (length map ≡ bytes_of m → ⊥) → formatted 1 pool map ≡ format_of pool map n
-    unfolding format_of
-    format_unmapped h = rw (← size, holds, ne_eqb (length map) (bytes_of m) h)
-
-    pub format_made : {map' : List ℕ} → length map ≡ bytes_of m → map' ≡ replicate (length map) 0
-        → formatted 0 (set (set pool 1 0) 0 n) map' ≡ format_of pool map n
-    unfolding format_of
-    format_made h c = rw (← size, holds, eq-eqb (length map) (bytes_of m) h, c, size_same (length pool) n m (sym holds ∙ size))
 
 module _ (pool map : List ℕ) (n : ℕ) where
   -- number 0 or 1; number 1 leaves everything unchanged; lengths stay
@@ -142,8 +118,8 @@ module _ (pool map : List ℕ) (n : ℕ) where
       not_made : Formats (formatted 1 pool map)
       not_made = record { number = inr refl; unchanged = λ e. refl; words = refl; bytes = refl }
 
-      go : (z : Size) → Formats (format_in pool map z)
-      go (Holds m) = sized (eqb (length map) (bytes_of m))
+      go : (z : Option ℕ) → Formats (format_in pool map z)
+      go (Some m) = sized (eqb (length map) (bytes_of m))
         where
           sized : (t : Bool) → Formats (pick t (formatted 0 (set (set pool 1 0) 0 m) (replicate (length map) 0)) (formatted 1 pool map))
           sized true =
@@ -154,4 +130,4 @@ module _ (pool map : List ℕ) (n : ℕ) where
                 bytes = length-replicate (length map) 0;
               }
           sized false = not_made
-      go Wrong = not_made
+      go None = not_made

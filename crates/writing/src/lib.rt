@@ -5,4 +5,3 @@ mod calls;
 mod making;
 
 pub use calls::{delete, format, put};
-pub use making::Done;

@@ -1,41 +1,34 @@
--- `lay_node` lays out the header, then sixteen empty children, and gives two of them. It rests on the laws of lists that are filled. Assumes nothing.
-use mathlib.Core.Path.{refl, ◌∙◌}
-use Prim.Native.Nat.{◌+◌}
-use native.Mathlib.Omega.{arith}
-use borrow.Author.Rules.{rules}
-use lib.ListN.{length-set}
-use Rattle.digits.specs.Digits.{digit_of}
-use Rattle.tree.specs.Stores.{tab}
-use Rattle.pool.specs.Places.{leaf_ref}
-use Rattle.laying.proofs.Lists.{filled_on, node_laid}
+-- `lay_node` lays out the header, at each turn one empty child more, and gives two of them. Assumes nothing.
+use Rattle.std.proofs.Common.{◌≡◌, ◌+◌, length, length-append, rules, arith, append_assoc, ap, ◌∙◌}
+use Rattle.tree.specs.Stores.{block, tab}
+use Rattle.plan.proofs.LaidOut.{length_valued}
+use Rattle.laying.proofs.Blocks.{block_more, child_given}
 use Rattle.laying.proofs.lay_node.Goals as goal
 
 pub loop-c-init : goal.loop-c-init
-unfolding tab
-loop-c-init c = (omega arith, refl, refl, refl, refl)
+unfolding block tab
+loop-c-init g c = search rules
 
 pub loop-c-preserved : goal.loop-c-preserved
-loop-c-preserved c =
-    let l = c.loop-c in
-    let word = c.args.word in
-    let next = c.lay.ensures in (
-      omega arith,
-      search rules,
-      search rules,
-      next.words ∙ filled_on _ _ (λ i. word + 1 + i) l.c l.invariant.3,
-      next.values ∙ filled_on _ _ (λ i. 0) l.c l.invariant.4,
-    )
+loop-c-preserved g c =
+    let more = block_more (c.args.word + 1) c.loop-c.c (λ i. 0) in
+    record {
+      stores = rw (c.push-in-loop-c.ensures, c.loop-c.invariant.stores, append_assoc, more);
+      count = omega (arith, rw length-append at (ap length c.push-in-loop-c.ensures));
+    }
 
-pub bounds-values-new : goal.bounds-values-new
-bounds-values-new c = simp length-set (search rules)
-
-pub shape_of-values : goal.shape_of-values
-shape_of-values c = simp length-set (search rules)
+pub set_value-requires-2 : goal.set_value-requires-2
+set_value-requires-2 g c =
+    let a = rw length_valued at (ap length c.set_value.ensures) in
+    search rules
 
 pub returns : goal.returns
-returns c =
+unfolding block
+returns g c =
     let a = c.args in
-    let l = c.loop-c in
-    rw (c.digit.ensures, c.digit-2.ensures, c.leaf_ref.ensures)
-    (node_laid (digit_of a.s.near a.s.diff) a.s.old (digit_of a.key a.s.diff) (leaf_ref a.leaf)
-    (rw c.pack.ensures at c.lay-first.ensures) (omega arith) (omega arith) (omega arith) l.invariant.3 l.invariant.4)
+    let n : c.loop-c.c ≡ 16 = omega arith in
+    let first = rw c.len-first.ensures at c.set_value.ensures in
+    let then = rw c.len-first.ensures at c.set_value-2.ensures in
+    let one = child_given c.push.new.self (a.word + 1) (λ i. 0) _ _ (rw n at c.loop-c.invariant.stores) in
+    let both = child_given c.push.new.self (a.word + 1) _ _ _ (first ∙ one) in
+    rw (c.digit.ensures, c.digit-2.ensures, c.leaf_ref.ensures, c.push.ensures, c.pack.ensures, append_assoc) at (then ∙ both)

@@ -6,13 +6,13 @@ use Rattle.placing.proofs.beside.Goals.{After-walk_to-end}
 
 pub returns-then-f-eq-DIGITS : goal.returns-then-f-eq-DIGITS
 returns-then-f-eq-DIGITS c =
-    beside_same c.args.pool.now _ _ _ _ _ c.first_diff-f.ensures c.if-f-eq-DIGITS.true
+    beside_same c.args.pool.now.words.now _ _ _ _ _ c.first_diff-f.ensures c.if-f-eq-DIGITS.true
 
 walked : (c : After-walk_to-end)
     → let a = c.args in
-    Walked a.pool.now a.n a.key a.near c.first_diff-f.result c.walk_to-end.result
+    Walked a.pool.now.words.now a.pool.now.n a.key a.near c.first_diff-f.result c.walk_to-end.result
 walked c =
-    record { sized = c.requires; first = c.first_diff-f.ensures; differ = c.if-f-eq-DIGITS.false; walks = c.walk_to-end.ensures }
+    record { sized = c.args.pool.now.sized; first = c.first_diff-f.ensures; differ = c.if-f-eq-DIGITS.false; walks = c.walk_to-end.ensures }
 
 pub cleft-requires : goal.cleft-requires
 cleft-requires c = leaf_at (walked (goal.at.cleft-requires c).After-walk_to-end) c.in-AtLeaf.is

@@ -1,13 +1,14 @@
-use mathlib.Core.Path.{◌≡◌}
-use Prim.Native.Nat.{◌≤◌, ◌-◌}
-use lib.ListN.{length}
+use Rattle.std.proofs.Common.{◌≡◌, ◌+◌}
+use Rattle.std.specs.Iterator.Adapters.{take_source, take_count, zip_first, zip_second}
+use Rattle.std.specs.Slice.Iter.{iter_rest}
 use Rattle.plan.specs.Plans.{stores_in, makes_of}
 use Rattle.plan.proofs.Laws.{makes_from}
 use Rattle.plan.proofs.make.Given as goal
 
-abbrev pub invariant-loop-i : goal.invariant-loop-i
-invariant-loop-i l =
-    (l.i ≤ l.most) × (length l.pool ≡ length l.initial.pool) × (makes_from l.most l.i l.words l.values l.pool ≡ makes_of l.most (stores_in l.words l.values) l.initial.pool)
-
-abbrev pub decreases-loop-i : goal.decreases-loop-i
-decreases-loop-i l = l.most - l.i
+abbrev pub invariant-loop-word : goal.invariant-loop-word
+invariant-loop-word l =
+    let pairs = take_source l.word-iterator in
+    record {
+      counted : l.made + take_count l.word-iterator ≡ l.most;
+      left : makes_from l.made (take_count l.word-iterator) (iter_rest (zip_first pairs)) (iter_rest (zip_second pairs)) l.pool ≡ makes_of l.most (stores_in l.words l.values) l.initial.pool;
+    }

@@ -1,12 +1,13 @@
 -- `capacity` is the size that the pool's length and word 0 agree on. Assumes nothing.
-use mathlib.Core.Path.{sym}
+use mathlib.Core.Path.{sym, ◌∙◌}
+use borrow.Author.Tests.{eqb-true}
 use lib.ListN.{get_or}
 use Rattle.pool.specs.Sizes.{capacity_of}
 use Rattle.pool.proofs.Sizes.{size_fits, none_wrong}
 use Rattle.pool.proofs.capacity.Goals as goal
 
-pub returns-then-pool-eq0 : goal.returns-then-pool-eq0
-returns-then-pool-eq0 c = (sym (none_wrong c.args.pool.now c.if-pool-eq0.true), tt)
+pub returns-then-is_empty : goal.returns-then-is_empty
+returns-then-is_empty c = (sym (none_wrong c.args.pool.now (eqb-true _ _ (sym c.is_empty.ensures ∙ c.if-is_empty.true))), tt)
 
 pub returns : goal.returns
 unfolding capacity_of

@@ -8,18 +8,18 @@ use Rattle.removing.proofs.Deletes.{delete_missed, delete_absent, delete_root, d
 use Rattle.removing.proofs.find_removal.Goals as goal
 use Rattle.removing.proofs.find_removal.Goals.{After-walk-end, In-AtLeaf}
 
-walked : (c : After-walk-end) → let a = c.args in Walked a.pool.now a.n a.key c.walk-end.result
-walked c = record { size = sym c.requires.1; walks = c.walk-end.ensures }
+walked : (c : After-walk-end) → let a = c.args in Walked a.pool.now.words.now a.pool.now.n a.key c.walk-end.result
+walked c = record { size = sym c.requires; walks = c.walk-end.ensures }
 
 -- where the walk that ended at a leaf stands
-stands : (c : In-AtLeaf) → Stands c.args.pool.now c.args.n 16 c.in-AtLeaf.s (Leaf c.in-AtLeaf.i)
-stands c = walk_inside c.requires.0 _ 16 (sym c.in-AtLeaf.is ∙ c.walk-end.ensures)
+stands : (c : In-AtLeaf) → Stands c.args.pool.now.words.now c.args.pool.now.n 16 c.in-AtLeaf.s (Leaf c.in-AtLeaf.i)
+stands c = walk_inside c.args.pool.now.sized _ 16 (sym c.in-AtLeaf.is ∙ c.walk-end.ensures)
 
 pub returns-in_default : goal.returns-in_default
 returns-in_default c = delete_missed (walked (goal.at.returns-in_default c).After-walk-end) c.in_default.not-AtLeaf c.miss.ensures
 
 pub leaf_key-requires : goal.leaf_key-requires
-leaf_key-requires c = (c.requires.0, (stands (goal.at.leaf_key-requires c).In-AtLeaf).within)
+leaf_key-requires c = (stands (goal.at.leaf_key-requires c).In-AtLeaf).within
 
 pub returns-then-leaf_key-key : goal.returns-then-leaf_key-key
 returns-then-leaf_key-key c =
@@ -35,7 +35,7 @@ returns-then-s-eq0 c =
 pub unlink-requires : goal.unlink-requires
 unlink-requires c = let i = (stands (goal.at.unlink-requires c).In-AtLeaf).inside in
     let p = i.passed c.if-s-eq0.false in
-    (c.requires.0, p.accepted.j<, i.depth≤, omega (arith, p.accepted.w≤b))
+    (p.accepted.j<, i.depth≤, omega (arith, p.accepted.w≤b))
 
 pub returns : goal.returns
 returns c =

@@ -1,9 +1,10 @@
--- `pass` goes on from piece to piece of its input. Assumes nothing.
-use Rattle.std.proofs.Common.{length, ◌-◌, ◌≤◌, ◌≡◌}
+-- `pass` goes on from piece to piece of its input, with an empty page each time. Assumes nothing.
+use Rattle.std.proofs.Common.{◌≤◌, length}
+use Rattle.session.specs.Bytes.{most}
 use Rattle.stream.proofs.pass.Given as goal
 
-abbrev pub invariant-loop-from : goal.invariant-loop-from
-invariant-loop-from g l = (l.from ≤ length l.input) × (length l.page ≡ length l.initial.page)
+abbrev pub invariant-loop-page : goal.invariant-loop-page
+invariant-loop-page g l = most ≤ l.page.room
 
-abbrev pub decreases-loop-from : goal.decreases-loop-from
-decreases-loop-from g l = length l.input - l.from
+abbrev pub decreases-loop-page : goal.decreases-loop-page
+decreases-loop-page g l = length l.rest

@@ -9,7 +9,4 @@ abbrev pub decreases-survey_ref : goal.decreases-survey_ref
 decreases-survey_ref l = 2 * (16 - l.w) + 1
 
 abbrev pub invariant-survey_node-loop-c : goal.invariant-survey_node-loop-c
-invariant-survey_node-loop-c l = Joined l.pool l.n l.j l.b l.initial.map l.c l.map l.g l.children
-
-abbrev pub decreases-survey_node-loop-c : goal.decreases-survey_node-loop-c
-decreases-survey_node-loop-c l = 16 - l.c
+invariant-survey_node-loop-c l = Joined l.pool.words.now l.pool.n l.j l.b l.initial.map l.c l.map l.span l.children

@@ -11,17 +11,17 @@ use Rattle.walk.proofs.accept.Goals as goal
 pub returns-then-depth-w : goal.returns-then-depth-w
 unfolding head_of
 returns-then-depth-w c =
-    let u = c.unpack-h.ensures in
+    let u = c.unpack-depth.ensures in
     (simp (← u.0, lt-ltb _ _ c.if-depth-w.true), tt)
 
 pub returns-then-b-gt15 : goal.returns-then-b-gt15
 returns-then-b-gt15 c =
-    let u = c.unpack-h.ensures in
+    let u = c.unpack-depth.ensures in
     (sym (too_deep _ _ (omega (arith, u.0, u.1))), tt)
 
 pub returns : goal.returns
 unfolding head_of
 returns c =
-    let h = c.unpack-h.result in
-    let u = c.unpack-h.ensures in
+    let h = c.unpack-depth.result in
+    let u = c.unpack-depth.ensures in
     (simp (← u.0, ← u.1, le-ltb _ _ c.if-depth-w.false, le-ltb 15 h.length (omega arith), le-ltb _ _ c.if-b-gt15.false), search rules)

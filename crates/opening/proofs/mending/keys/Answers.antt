@@ -1,21 +1,36 @@
--- `keys` adds up bytes that are 0 or 1, and so counts those that are not 0. Assumes nothing.
-use native.Mathlib.Omega.{arith}
-use borrow.Author.Rules.{rules}
+-- The keys are counted one by one. Assumes nothing.
+use Rattle.std.proofs.Common.{◌≡◌, ◌∙◌, refl, sym, ap, ◌+◌, ◌<◌, not, eqb, get_or, arith}
+use Rattle.std.proofs.lemmas.List.{length-take, get_or-take}
 use Rattle.digits.specs.Loops.{tally}
-use Rattle.opening.proofs.Openings.{byte_counted, few_keys}
+use Rattle.walk.proofs.Loops.{tally_le}
+use Rattle.opening.specs.Openings.{keys_of}
+use Rattle.opening.proofs.Openings.{key_more}
 use Rattle.opening.proofs.mending.keys.Goals as goal
+use Rattle.opening.proofs.mending.keys.Goals.{After-from-count}
 
-pub loop-i-init : goal.loop-i-init
+more : (c : After-from-count) → let m = c.args.map.now in
+    (c.loop-mark.count + c.from-count.result ≡ keys_of (c.loop-mark.mark-index + 1) m.bytes.now) × (c.loop-mark.mark-index < m.n)
+more c =
+    let m = c.args.map.now in
+    let l : c.loop-mark.mark-index < m.n = omega (arith, length-take m.n m.bytes.now, m.mapped.some, m.mapped.long) in
+    let e = rw (get_or-take m.n m.bytes.now c.loop-mark.mark-index 0 l) at c.from-count.ensures in
+    (rw (c.loop-mark.invariant, e) (sym (key_more m.bytes.now c.loop-mark.mark-index)), l)
+
+pub loop-mark-init : goal.loop-mark-init
 unfolding tally
-loop-i-init c = search rules
+loop-mark-init c = refl
 
 pub overflow_add-count : goal.overflow_add-count
 overflow_add-count c =
-    omega (arith, c.requires.1 c.loop-i.i, few_keys c.args.map.now c.loop-i.i)
+    let m = c.args.map.now in
+    let n = more (goal.at.overflow_add-count c).After-from-count in
+    omega (arith, n.0, tally_le (λ i. not (eqb (get_or m.bytes.now i 0) 0)) (c.loop-mark.mark-index + 1), m.mapped.most)
 
-pub loop-i-preserved : goal.loop-i-preserved
-loop-i-preserved c = (
-  omega arith,
-  byte_counted c.args.map.now c.loop-i.i
-      (c.requires.1 c.loop-i.i) c.loop-i.invariant.1,
-)
+pub loop-mark-preserved : goal.loop-mark-preserved
+loop-mark-preserved c = (more (goal.at.loop-mark-preserved c).After-from-count).0
+
+pub returns : goal.returns
+returns c =
+    let m = c.args.map.now in
+    let all : c.loop-mark.mark-index ≡ m.n = omega (arith, length-take m.n m.bytes.now, m.mapped.some, m.mapped.long) in
+    c.loop-mark.invariant ∙ ap (λ i. keys_of i m.bytes.now) all

@@ -1,12 +1,7 @@
--- `plan_any` judges the size first. Assumes nothing.
-use mathlib.Core.Path.{◌∙◌}
-use Rattle.opening.proofs.Openings.{plan_wrong, plan_holds}
+-- `plan_any` lends the first bytes of its working memory, which are all 0. Assumes nothing.
+use Rattle.std.proofs.Common.{◌-◌, ◌*◌, arith}
+use Rattle.std.proofs.lemmas.List.{take-replicate}
 use Rattle.opening.proofs.mending.plan_any.Goals as goal
 
-pub returns-in_default : goal.returns-in_default
-returns-in_default c = c.refused.ensures ∙ plan_wrong c.args.pool.now c.capacity.ensures.0
-    c.in_default.is
-
-pub returns : goal.returns
-returns c =
-    c.plan_within.ensures ∙ plan_holds c.args.pool.now c.capacity.ensures.0 c.in-Holds.is
+pub plan_with-requires : goal.plan_with-requires
+plan_with-requires c = take-replicate (2 * c.in_ok-pool.pool.n - 1) 2047 0 (omega (arith, c.in_ok-pool.pool.sized.some, c.in_ok-pool.pool.sized.most))

@@ -1,7 +1,6 @@
--- `carry_out` makes all stores by the one loop, and finishes. It rests on the laws of stores one after the other. Assumes nothing.
+-- `carry_out` makes all stores by the one loop, and finishes. Assumes nothing.
 use Rattle.writing.proofs.Makings.{carried}
 use Rattle.writing.proofs.making.carry_out.Goals as goal
 
 pub returns : goal.returns
-returns c =
-    carried _ _ _ _ _ c.args.effect c.requires.1 c.make-stores.ensures c.take_effect.ensures
+returns g c = carried _ _ c.args.stores.now c.args.effect c.requires c.make-made.ensures c.take_effect.ensures

@@ -1,0 +1,21 @@
+-- The numbers of the refusals, and of an answer.
+-- Assumes nothing.
+use Rattle.std.specs.Prelude.{ℕ, Result, Ok, Err}
+use Rattle.refusals.specs.declared.Refusal.{Refusal}
+use Rattle.refusals.specs.declared.Refusal.TheVariants.{Size, Damage, Absent, Full, Outside, Buffers, Retired}
+
+-- 01's table: "1 size", "2 damage met", "3 key absent", "4 no free leaf, or a node needed and none free", "5 step: .. finish: ..", "6 listing buffers";
+-- 02 (x): "refused with 7"
+abbrev pub number_of : Refusal → ℕ
+number_of Size = 1
+number_of Damage = 2
+number_of Absent = 3
+number_of Full = 4
+number_of Outside = 5
+number_of Buffers = 6
+number_of Retired = 7
+
+-- 0 is done
+abbrev pub number_in : {A : Type 0} → Result A Refusal → ℕ
+number_in (Ok a) = 0
+number_in (Err r) = number_of r

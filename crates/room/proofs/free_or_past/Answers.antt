@@ -1,9 +1,0 @@
--- `free_or_past` is its definition. Assumes nothing.
-use borrow.Author.Tests.{eq-eqb, ne_eqb}
-use Rattle.room.proofs.free_or_past.Goals as goal
-
-pub returns-then-byte-eq0 : goal.returns-then-byte-eq0
-returns-then-byte-eq0 c = rw (eq-eqb _ _ c.if-byte-eq0.true)
-
-pub returns-else-byte-eq0 : goal.returns-else-byte-eq0
-returns-else-byte-eq0 c = rw (ne_eqb _ _ c.if-byte-eq0.false)
