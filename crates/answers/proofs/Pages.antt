@@ -1,6 +1,6 @@
 -- Laws of pages: a text that fits goes onto a page after what is there, one that does not leaves it, and a listing goes onto it entry by entry.
 -- Assumes nothing.
-use Rattle.std.proofs.Common.{◌≡◌, ℕ, ◌+◌, ◌-◌, ◌<◌, ◌≤◌, List, [], ◌∷◌, ◌++◌, length, get_or, Option, Some, Bor, Iter, add-one, refl, ap, lt-ltb, le-ltb}
+use Rattle.std.proofs.Common.{◌≡◌, ℕ, ◌+◌, ◌<◌, ◌≤◌, List, [], ◌∷◌, ◌++◌, length, get_or, drop, Option, Some, Bor, Iter, add-one, refl, ap, lt-ltb, le-ltb}
 use Rattle.std.specs.declared.iter.Take.{Take}
 use Rattle.std.specs.declared.iter.Zip.{Zip}
 use Rattle.std.specs.Iterator.{Yields}
@@ -10,16 +10,16 @@ use Rattle.std.proofs.iter.Yields.{fronts}
 use Rattle.std.proofs.lemmas.Iterator.{zips}
 use Rattle.std.proofs.lemmas.Slice.Zip.{zip_turn}
 use Rattle.digits.specs.Loops.{upto}
-use Rattle.answers.specs.Answers.{text_of, Page, page, written, entries_of}
+use Rattle.answers.specs.Answers.{text_of, Page, page, room_of, written, entries_of}
 use Rattle.answers.specs.declared.Answer.TheVariants.{Entry}
 
-pub written_whole : (text : List ℕ) (p : Page) → length text ≤ p.room → written text p ≡ page (p.filled ++ text) (p.room - length text)
+pub written_whole : (text : List ℕ) (p : Page) → length text ≤ room_of p → written text p ≡ page (p.filled ++ text) (drop (length text) p.rest)
 unfolding written
-written_whole text p h = rw (le-ltb p.room (length text) h)
+written_whole text p h = rw (le-ltb (room_of p) (length text) h)
 
-pub written_not : (text : List ℕ) (p : Page) → p.room < length text → written text p ≡ p
+pub written_not : (text : List ℕ) (p : Page) → room_of p < length text → written text p ≡ p
 unfolding written
-written_not text p h = rw (lt-ltb p.room (length text) h)
+written_not text p h = rw (lt-ltb (room_of p) (length text) h)
 
 -- an entry more
 pub entry_more : (keys values : List ℕ) (i n key value : ℕ) (start before now : Page) → before ≡ entries_of i keys values start

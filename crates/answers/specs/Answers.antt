@@ -1,6 +1,6 @@
 -- What an answer is printed as, and where it goes.
 -- Assumes nothing.
-use Rattle.std.specs.Prelude.{List, [], ◌∷◌, ◌++◌, ℕ, ◌+◌, ◌-◌, min, ltb, length, get_or, Result}
+use Rattle.std.specs.Prelude.{List, [], ◌∷◌, ◌++◌, ℕ, min, ltb, length, get_or, drop, Result}
 use Rattle.std.specs.Result.{result_unwrap_or}
 use Rattle.digits.specs.Choice.{pick}
 use Rattle.digits.specs.Loops.{upto}
@@ -39,21 +39,24 @@ text_of (Cut planned stores keys headers) = letter_C ∷ fields_of (number_in pl
 -- "prints ? and its line number"
 text_of (Wrong line) = query ∷ fields_of (line ∷ []) line_end
 
--- a page that is being filled: its bytes so far, and how many more it has room for
+-- a page that is being filled: its bytes so far, and those behind them, which are room for more
 pub record Page : Type 0 where
   pub filled : List ℕ
-  pub room : ℕ
+  pub rest : List ℕ
 
-abbrev pub page : List ℕ → ℕ → Page
-page filled room = record { filled = filled; room = room }
+abbrev pub page : List ℕ → List ℕ → Page
+page filled rest = record { filled = filled; rest = rest }
+
+abbrev pub room_of : Page → ℕ
+room_of p = length p.rest
 
 -- a text goes onto a page whole, or where there is no room not at all
 unfoldable pub written : List ℕ → Page → Page
-written text p = pick (ltb p.room (length text)) p (page (p.filled ++ text) (p.room - length text))
+written text p = pick (ltb (room_of p) (length text)) p (page (p.filled ++ text) (drop (length text) p.rest))
 
 -- the page with nothing on it
 abbrev pub emptied : Page → Page
-emptied p = page [] (length p.filled + p.room)
+emptied p = page [] (p.filled ++ p.rest)
 
 -- the entries of a listing, so many of them, one after the other
 abbrev pub entries_of : ℕ → List ℕ → List ℕ → Page → Page

@@ -1,11 +1,11 @@
 // The page that answers go onto.
-ghost use Rattle.std.specs.Prelude.{◌≡◌, [], length};
-ghost use Rattle.answers.specs.Answers.{text_of, page, written, emptied, listing_of};
+ghost use Rattle.std.specs.Prelude.{◌≡◌, []};
+ghost use Rattle.answers.specs.Answers.{text_of, page, room_of, written, emptied, listing_of};
 
 use crate::Answer;
 use std::marker::Model;
 
-// A page that is filled from its start. A clause sees the bytes that are on it, and how many more it has room for.
+// A page that is filled from its start. A clause sees the bytes that are on it, and those behind them.
 #[derive(Drop)]
 pub struct Page<'a> {
     bytes: &'a mut [u8],
@@ -13,12 +13,12 @@ pub struct Page<'a> {
 }
 
 impl<'a> Model for Page<'a> {
-    ghost use Rattle.std.specs.Prelude.{◌-◌, ◌≤◌, length, take};
+    ghost use Rattle.std.specs.Prelude.{◌≤◌, length, take, drop};
     ghost use Rattle.answers.specs.Answers.{Page as Filling, page};
 
     ghost Value = { Filling };
 
-    ghost view = { λ p. page (take p.end p.bytes.now) (length p.bytes.now - p.end) };
+    ghost view = { λ p. page (take p.end p.bytes.now) (drop p.end p.bytes.now) };
 
     ghost invariant = { λ p. p.end ≤ length p.bytes.now };
 }
@@ -26,7 +26,7 @@ impl<'a> Model for Page<'a> {
 impl<'a> Page<'a> {
     // A page with nothing on it.
     pub fn new(bytes: &'a mut [u8]) -> Page<'a>
-        ensures { result ≡ page [] (length bytes.old) }
+        ensures { result ≡ page [] bytes.old }
     {
         Page { bytes, end: 0 }
     }
@@ -40,7 +40,7 @@ impl<'a> Page<'a> {
 
     // How many more bytes it has room for.
     pub fn room(&self) -> usize
-        ensures { result ≡ self.now.room }
+        ensures { result ≡ room_of self.now }
     {
         self.bytes.len() - self.end
     }

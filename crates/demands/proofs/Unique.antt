@@ -3,8 +3,8 @@ use mathlib.Core.Path.{◌≡◌, refl, sym, ap, ◌∙◌}
 use Prim.Native.Nat.{ℕ}
 use Rattle.std.specs.Prelude.{Result, Ok, Err}
 use Rattle.refusals.specs.declared.Refusal.{Refusal}
-use Rattle.refusals.specs.Refusals.{number_in}
-use Rattle.refusals.proofs.Numbers.{answer_at, answer_told}
+use Rattle.refusals.specs.Refusals.{number_in, answer_at}
+use Rattle.refusals.proofs.Numbers.{answer_told}
 use Rattle.plan.specs.declared.Plan.{Plan}
 use Rattle.writing.specs.Calls.{done_in}
 use Rattle.opening.specs.declared.mending.Opened.{Opened}

@@ -16,7 +16,8 @@ use Rattle.walk.specs.declared.End.TheVariants.{AtLeaf, AtEmpty, Stopped, Damage
 use Rattle.walk.proofs.Counts.{walk_few, stopped_fewer}
 use Rattle.walk.proofs.Ends.{Unstopped, walk_unstopped}
 use Rattle.refusals.specs.declared.Refusal.{Refusal}
-use Rattle.refusals.proofs.Numbers.{answer_at, answer_told}
+use Rattle.refusals.specs.Refusals.{answer_at}
+use Rattle.refusals.proofs.Numbers.{answer_told}
 use Rattle.finding.specs.declared.Found.{Found}
 use Rattle.finding.specs.Lookups.{Answer, answer, told, found_end, found_at, found_in, lookup_of, quick_at, quick_in, quick_of}
 use Rattle.digits.proofs.Choice.{pick_case}

@@ -11,7 +11,8 @@ use lib.Dec.{eqb}
 use lib.ListN.{length, replicate}
 use Rattle.digits.specs.Choice.{pick}
 use Rattle.refusals.specs.declared.Refusal.{Refusal}
-use Rattle.refusals.proofs.Numbers.{answer_at, answer_told}
+use Rattle.refusals.specs.Refusals.{answer_at}
+use Rattle.refusals.proofs.Numbers.{answer_told}
 use Rattle.pool.specs.Sizes.{capacity_of}
 use Rattle.pool.specs.Places.{word_at}
 use Rattle.listing.specs.declared.Listed.{Listed}

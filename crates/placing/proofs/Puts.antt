@@ -1,6 +1,6 @@
 -- Where a put goes: by where the walk ends, and beside which key. Every place found leads to the definition's plan, whatever the map and the value.
 -- Assumes nothing.
-use Rattle.std.specs.Prelude.{Err, None, Ok, Option, Result, Some}
+use Rattle.std.specs.Prelude.{Err, Ok, Result}
 use mathlib.Core.Path.{◌≡◌, refl, sym, ◌∙◌}
 use mathlib.Core.Logic.{◌≢◌}
 use mathlib.Core.List.{List}
@@ -11,7 +11,7 @@ use lib.ListN.{length}
 use Rattle.digits.specs.Digits.{first_diff}
 use Rattle.digits.proofs.Digits.{first_diff_le}
 use Rattle.tree.proofs.Basics.{Same?, same, other, same?}
-use Rattle.pool.specs.Sizes.{Sized, capacity_of, bytes_of}
+use Rattle.pool.specs.Sizes.{Sized}
 use Rattle.pool.specs.Places.{word_at, key_at}
 use Rattle.walk.specs.Walks.{walk_of, walk_to, lowest_of}
 use Rattle.walk.specs.Ends.{Inside, Ends}
@@ -28,8 +28,8 @@ use Rattle.rules.specs.declared.Cleft.{Cleft}
 use Rattle.rules.specs.declared.Target.TheVariants.{ALeaf, ANode}
 use Rattle.placing.specs.declared.Place.{Place}
 use Rattle.placing.specs.declared.Place.TheVariants.{Held, Gap, Apart}
-use Rattle.rules.specs.Puts.{cleft_at, placed_at, beside_of, leaf_put, empty_put, put_at, put_file, put_plan}
-use Rattle.placing.specs.Leads.{plan_for, Leads, Suits}
+use Rattle.rules.specs.Puts.{cleft_at, placed_at, beside_of, leaf_put, empty_put, put_at, put_file}
+use Rattle.placing.specs.Leads.{Leads, Suits}
 
 -- ---- the walk's last node
 -- the reference to it is inside the pool; before the first node that counts as word 0
@@ -177,18 +177,3 @@ module _ (pool : List ℕ) (n k v : ℕ) where
 
   pub file_placed : {p : Result Place Refusal} → v ≢ 0 → Leads n k p (λ map v. put_at pool map n k v (walk_of pool n k)) → Suits n k v p (λ map. put_file pool map n k v)
   file_placed h b = record { able = b.able; plans = λ map. rw (ne_eqb v 0 h) (b.plans map v) }
-
--- ---- by the sizes
-module _ (pool map : List ℕ) (k v : ℕ) {z : Option ℕ} (size : z ≡ capacity_of pool) where
-  pub put_unsized : z ≡ None → refused 1 ≡ put_plan pool map k v
-  unfolding put_plan
-  put_unsized h = rw (← size, h)
-
-  module _ {n : ℕ} (holds : z ≡ Some n) where
-    pub put_unmapped : (length map ≡ bytes_of n → ⊥) → refused 1 ≡ put_plan pool map k v
-    unfolding put_plan
-    put_unmapped h = rw (← size, holds, ne_eqb (length map) (bytes_of n) h)
-
-    pub put_placed : {p : Result Place Refusal} → length map ≡ bytes_of n → Suits n k v p (λ map. put_file pool map n k v) → plan_for map n k v p ≡ put_plan pool map k v
-    unfolding put_plan
-    put_placed h b = rw (← size, holds, eq-eqb (length map) (bytes_of n) h) (b.plans map)

@@ -10,7 +10,7 @@ use native.Mathlib.Numerals.{add-one}
 use native.Mathlib.Omega.{arith}
 use borrow.Author.Tests.{lt-ltb, le-ltb, le-leb, lt-leb}
 use lib.Dec.{eqb, ltb}
-use lib.ListN.{length, get_or, set, take, drop, replicate, length-set, length-append, length-take, length-replicate, length-map, get_or-map, get_or-eq_default}
+use lib.ListN.{length, get_or, set, take, replicate, length-set, length-append, length-take, length-replicate, length-map, get_or-map, get_or-eq_default}
 use lib.Seq.{lt-length-set, take_all, take-suc, take-append-add, get_or-set_same, get_or-set_other}
 use Rattle.std.proofs.lemmas.List.{take-replicate}
 use Rattle.std.specs.Prelude.{Result, Ok, Err}
@@ -107,15 +107,6 @@ unfolding made
 made_next σ i l h = rw (add-one i, take-suc σ i unused h, made_append (take i σ) (get_or σ i unused ∷ []) l)
 
 -- ---- two lists as stores
--- store i and those after it
-stores_drop : (ws vs : List ℕ) (i : ℕ) → i < length ws → i < length vs
-    → drop i (stores_in ws vs) ≡ record { word = get_or ws i 0; value = get_or vs i 0 } ∷ drop (suc i) (stores_in ws vs)
-unfolding stores_in
-stores_drop [] vs i h k = absurd (not-suc-le-zero h)
-stores_drop (w ∷ ws) [] i h k = absurd (not-suc-le-zero k)
-stores_drop (w ∷ ws) (v ∷ vs) zero h k = refl
-stores_drop (w ∷ ws) (v ∷ vs) (suc i) h k = stores_drop ws vs i (le_of_suc-le-suc h) (le_of_suc-le-suc k)
-
 -- lists that begin with the words and the values of stores hold these stores first
 pub stores_first : (σ : List Store) (ws vs : List ℕ)
     → take (length σ) (stores_in (map (λ (s : Store). s.word) σ ++ ws) (map (λ (s : Store). s.value) σ ++ vs)) ≡ σ

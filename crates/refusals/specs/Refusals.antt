@@ -1,6 +1,6 @@
 -- The numbers of the refusals, and of an answer.
 -- Assumes nothing.
-use Rattle.std.specs.Prelude.{ℕ, Result, Ok, Err}
+use Rattle.std.specs.Prelude.{ℕ, cond, eqb, Result, Ok, Err}
 use Rattle.refusals.specs.declared.Refusal.{Refusal}
 use Rattle.refusals.specs.declared.Refusal.TheVariants.{Size, Damage, Absent, Full, Outside, Buffers, Retired}
 
@@ -19,3 +19,17 @@ number_of Retired = 7
 abbrev pub number_in : {A : Type 0} → Result A Refusal → ℕ
 number_in (Ok a) = 0
 number_in (Err r) = number_of r
+
+-- the refusal with a number
+abbrev pub refusal_at : ℕ → Refusal
+refusal_at k =
+    cond (eqb k 1) Size
+    (cond (eqb k 2) Damage
+    (cond (eqb k 3) Absent
+    (cond (eqb k 4) Full
+    (cond (eqb k 5) Outside
+    (cond (eqb k 6) Buffers Retired)))))
+
+-- the answer with a number and a value
+abbrev pub answer_at : {A : Type 0} → ℕ → A → Result A Refusal
+answer_at k a = cond (eqb k 0) (Ok a) (Err (refusal_at k))

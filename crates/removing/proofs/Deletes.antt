@@ -1,6 +1,6 @@
 -- Which plan a delete comes to: by where the walk ends.
 -- Assumes nothing.
-use Rattle.std.specs.Prelude.{None, Option, Some}
+use Rattle.std.specs.Prelude.{Some}
 use mathlib.Core.Path.{◌≡◌, refl, ◌∙◌}
 use mathlib.Core.List.{List}
 use Prim.Native.Nat.{ℕ}
@@ -14,10 +14,6 @@ use Rattle.walk.specs.declared.End.TheVariants.{AtLeaf, AtEmpty, Stopped, Damage
 use Rattle.plan.specs.Plans.{refused}
 use Rattle.plan.specs.declared.Effect.TheVariants.{FreesLeaf}
 use Rattle.rules.specs.Deletes.{emptied, unlink_of, miss_of, delete_at, delete_plan}
-
-pub delete_unsized : (pool : List ℕ) (k : ℕ) {z : Option ℕ} → z ≡ capacity_of pool → z ≡ None → refused 1 ≡ delete_plan pool k
-unfolding delete_plan
-delete_unsized pool k size h = rw (← size, h)
 
 -- what is known once the walk has ended
 pub record Walked (pool : List ℕ) (n k : ℕ) (e : End) : Type 0 where

@@ -1,12 +1,12 @@
 -- The room of a split, and the words of its stores.
 -- Assumes nothing.
 use Rattle.std.specs.Prelude.{Some, None}
-use mathlib.Core.Path.{◌≡◌, refl, ap, ◌∙◌}
+use mathlib.Core.Path.{◌≡◌, refl}
 use mathlib.Core.Bool.{Bool, true, false}
 use mathlib.Core.List.{List}
 use Prim.Native.Nat.{ℕ, ◌+◌, ◌≤◌, ◌<◌}
 use native.Mathlib.Omega.{arith}
-use borrow.Author.Tests.{lt-ltb, le-ltb, ltb-true}
+use borrow.Author.Tests.{ltb-true}
 use lib.Dec.{ltb}
 use Rattle.digits.specs.Choice.{pick}
 use Rattle.tree.specs.Stores.{block}
@@ -18,7 +18,7 @@ use Rattle.rules.specs.declared.Cleft.{Cleft}
 use Rattle.rules.specs.declared.Target.{Target}
 use Rattle.rules.specs.declared.Target.TheVariants.{ALeaf, ANode}
 use Rattle.rules.specs.declared.Slots.{Slots}
-use Rattle.rules.specs.Puts.{free_from, free_leaf, free_node, target_header, cleaving, slots, room_of}
+use Rattle.rules.specs.Puts.{free_leaf, free_node, target_header, cleaving, slots, room_of}
 use Rattle.rules.proofs.LowestFree.{free_found}
 
 -- ---- room
@@ -36,20 +36,6 @@ module _ (map : List ℕ) (n : ℕ) where
           rw a (l, (free_found map n (bytes_of n) h).0, h)
       go true p false q e = let o : ◌≡◌ {A = ℕ} 0 1 = cc in absurd (omega arith)
       go false p t q e = let o : ◌≡◌ {A = ℕ} 0 1 = cc in absurd (omega arith)
-
-  module _ {leaf : ℕ} (e : leaf ≡ free_leaf map n) where
-    pub leaves_full : n ≤ leaf → None ≡ room_of map n
-    leaves_full h = rw (← e, le-ltb leaf n h)
-
-    module _ {bytes byte : ℕ} (l : bytes ≡ bytes_of n) (f : byte ≡ free_from map n bytes) (h : leaf < n) where
-      found : byte ≡ free_node map n
-      found = f ∙ ap (free_from map n) l
-
-      pub nodes_full : bytes ≤ byte → None ≡ room_of map n
-      nodes_full g = rw (← e, ← found, lt-ltb leaf n h, le-ltb byte (bytes_of n) (omega arith))
-
-      pub room_there : byte < bytes → Some (slots leaf byte) ≡ room_of map n
-      room_there g = rw (← e, ← found, lt-ltb leaf n h, lt-ltb byte (bytes_of n) (omega arith))
 
 -- ---- the words that a split stores to
 -- what holds of the words of its parts holds of them all, in whatever order the parts come

@@ -2,13 +2,17 @@
 ghost use Rattle.std.specs.Prelude.{◌≡◌};
 ghost use Rattle.script.specs.Input.{begun, taken, whole, taken_of, end_of};
 
-use crate::lines::{self, Line};
+use crate::lines;
 use crate::turns::{Shell, Turn};
+use arrayvec::ArrayVec;
+
+// Bytes of a line that are kept: one more than a right line can have, so that a longer one is seen to be too long.
+const KEPT: usize = 64;
 
 // The line that is being gathered, and the state that the lines before it left.
 #[derive(Drop)]
 pub struct Reader {
-    line: Line,
+    line: ArrayVec<u8, KEPT>,
     shell: Shell,
 }
 
@@ -18,7 +22,7 @@ impl Reader {
         ensures { result ≡ begun }
     {
         Reader {
-            line: Line::new(),
+            line: ArrayVec::new(),
             shell: Shell::new(),
         }
     }
@@ -30,7 +34,8 @@ impl Reader {
         if byte == b'\n' {
             return self.end_line();
         }
-        self.line.push(byte);
+        // A byte that there is no room for is dropped.
+        let _ = self.line.try_push(byte);
         Turn::Nothing
     }
 

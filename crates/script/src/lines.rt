@@ -1,9 +1,7 @@
 // Bytes to lines, and a line to a command.
-ghost use Rattle.std.specs.Prelude.{◌≡◌, ◌≤◌, ◌↔◌, IsTrue, List, [], ℕ, length, take};
+ghost use Rattle.std.specs.Prelude.{◌≡◌};
 ghost use Rattle.script.specs.Numbers.{value_of, with_digit, number_from, key_of, number_of};
-ghost use Rattle.script.specs.Lines.{key_and_value_of, tagged_of, command_of, kept_of};
-
-use std::marker::Model;
+ghost use Rattle.script.specs.Lines.{key_and_value_of, tagged_of, command_of};
 
 // A line's command.
 #[derive(Clone, Copy)]
@@ -17,9 +15,6 @@ pub enum Command {
 
 // Bytes of a line, at most.
 const LONGEST: usize = 63;
-
-// Bytes of a line that are kept: one more than a right line can have, so that a longer one is seen to be too long.
-const LINE: usize = 64;
 
 // Stores after which a cut comes, at most.
 const CUT: u64 = 21;
@@ -119,62 +114,5 @@ pub fn command_of(line: &[u8]) -> Option<Command>
         [b'L'] => Some(Command::Listing),
         [tag, b'\t', rest @ ..] => tagged(*tag, rest),
         _ => None,
-    }
-}
-
-// The line that is being gathered. Clauses see its bytes.
-#[derive(Drop)]
-pub struct Line {
-    bytes: [u8; LINE],
-    len: usize,
-}
-
-impl Model for Line {
-    ghost Value = { List ℕ };
-
-    ghost view = { λ line. take line.len line.bytes };
-
-    ghost invariant = { λ line. line.len ≤ length line.bytes };
-}
-
-impl Line {
-    // A line with no byte.
-    pub fn new() -> Self
-        ensures { result ≡ [] }
-    {
-        Line {
-            bytes: [0; LINE],
-            len: 0,
-        }
-    }
-
-    pub fn is_empty(&self) -> bool
-        ensures { IsTrue result ↔ (self.now ≡ []) }
-    {
-        self.len == 0
-    }
-
-    // The bytes so far.
-    pub fn as_slice(&self) -> &[u8]
-        ensures { result.now ≡ self.now }
-    {
-        &self.bytes[..self.len]
-    }
-
-    // One byte more; it is dropped where there is no room.
-    pub fn push(&mut self, byte: u8)
-        ensures { self.new ≡ kept_of self.old byte }
-    {
-        if self.len < LINE {
-            self.bytes[self.len] = byte;
-            self.len += 1;
-        }
-    }
-
-    // The next line begins.
-    pub fn clear(&mut self)
-        ensures { self.new ≡ [] }
-    {
-        self.len = 0;
     }
 }

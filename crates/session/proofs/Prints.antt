@@ -1,11 +1,11 @@
 -- A page holds what the bytes that were taken print, all of it and nothing else, where it has room for one turn at the start.
 -- Assumes nothing.
-use Rattle.std.proofs.Common.{◌≡◌, refl, sym, ap, ◌∙◌, ℕ, ◌+◌, ◌≤◌, ◌<◌, Bool, true, false, List, [], ◌∷◌, ◌++◌, length, take, arith, add-one, append_assoc, append-nil, length-append}
+use Rattle.std.proofs.Common.{◌≡◌, refl, sym, ap, ◌∙◌, ℕ, ◌+◌, ◌≤◌, ◌<◌, Bool, true, false, List, [], ◌∷◌, ◌++◌, length, take, arith, add-one, append_assoc, append-nil, length-append, length-drop}
 use Rattle.std.proofs.lemmas.Bool.{leb-true, le-leb}
 use Rattle.std.proofs.lemmas.Grind.{flat_map-append}
 use Rattle.std.proofs.lemmas.List.Sums.{fold-append}
 use Rattle.digits.specs.Choice.{pick}
-use Rattle.answers.specs.Answers.{text_of, Page, written}
+use Rattle.answers.specs.Answers.{text_of, Page, room_of, written, emptied}
 use Rattle.answers.specs.declared.Answer.{Answer}
 use Rattle.answers.proofs.Pages.{written_whole}
 use Rattle.turns.specs.Turns.{printed}
@@ -16,7 +16,7 @@ use Rattle.session.proofs.Texts.{turn_short}
 -- a page with a text more
 pub record Prints (p : Page) (text : List ℕ) (q : Page) : Type 0 where
   pub reads : q.filled ≡ p.filled ++ text
-  pub keeps : q.room + length text ≡ p.room
+  pub keeps : room_of q + length text ≡ room_of p
 
 prints_none : (p : Page) → Prints p [] p
 prints_none p = record { reads = sym (append-nil p.filled); keeps = omega arith }
@@ -27,10 +27,10 @@ prints_then {p = p} {s = s} {t = t} a b = record {
   keeps = omega (arith, a.keeps, b.keeps, length-append s t);
 }
 
-pub written_prints : (text : List ℕ) (p : Page) → length text ≤ p.room → Prints p text (written text p)
-written_prints text p room = rw (written_whole text p room) record { reads = refl; keeps = omega arith }
+pub written_prints : (text : List ℕ) (p : Page) → length text ≤ room_of p → Prints p text (written text p)
+written_prints text p room = rw (written_whole text p room) record { reads = refl; keeps = omega (arith, length-drop (length text) p.rest) }
 
-pub answers_print : (answers : List Answer) (p : Page) → length (texts_of answers) ≤ p.room → Prints p (texts_of answers) (printed answers p)
+pub answers_print : (answers : List Answer) (p : Page) → length (texts_of answers) ≤ room_of p → Prints p (texts_of answers) (printed answers p)
 answers_print [] p room = prints_none p
 answers_print (a ∷ answers) p room =
     let l : length (text_of a ++ texts_of answers) ≡ length (text_of a) + length (texts_of answers) = length-append (text_of a) (texts_of answers) in
@@ -47,7 +47,7 @@ runs_none : (input : List ℕ) (s : Stream) → Runs input s (going 0 s)
 unfolding said_by
 runs_none input s = record { few = omega arith; session = refl; prints = prints_none s.page }
 
-runs_more : (byte : ℕ) (input : List ℕ) (s : Stream) (g : Going) → most ≤ s.page.room
+runs_more : (byte : ℕ) (input : List ℕ) (s : Stream) (g : Going) → most ≤ room_of s.page
     → Runs input (on_byte byte s) g → Runs (byte ∷ input) s (going (g.used + 1) g.stream)
 unfolding said_by
 runs_more byte input s g room r =
@@ -64,27 +64,27 @@ run_prints (byte ∷ input) s = go (run_of input (on_byte byte s)) (run_prints i
   where
     go : (g : Going) → Runs input (on_byte byte s) g → (b : Bool) → roomy s.page ≡ b
         → Runs (byte ∷ input) s (pick b (going (g.used + 1) g.stream) (going 0 s))
-    go g r true e = runs_more byte input s g (leb-true most s.page.room e) r
+    go g r true e = runs_more byte input s g (leb-true most (room_of s.page) e) r
     go g r false e = runs_none (byte ∷ input) s
 
 -- how far a run comes: it takes a byte, where there is one and the page has room
 pub run_few : (input : List ℕ) (s : Stream) → (run_of input s).used ≤ length input
 run_few input s = (run_prints input s).few
 
-pub run_moves : (input : List ℕ) (s : Stream) → 0 < length input → most ≤ s.page.room → 0 < (run_of input s).used
+pub run_moves : (input : List ℕ) (s : Stream) → 0 < length input → most ≤ room_of s.page → 0 < (run_of input s).used
 unfolding run_of
 run_moves [] s h e = omega arith
-run_moves (byte ∷ input) s h e = rw (le-leb most s.page.room e) (omega arith)
+run_moves (byte ∷ input) s h e = rw (le-leb most (room_of s.page) e) (omega arith)
 
--- its page stays as long as it was
+-- its page has its room again once it is emptied
 pub run_keeps : (used : ℕ) (input : List ℕ) (s t : Stream) → going used t ≡ run_of input s
-    → length t.page.filled + t.page.room ≡ length s.page.filled + s.page.room
+    → room_of s.page ≤ room_of (emptied t.page)
 run_keeps used input s t e =
     let r : Runs input s (going used t) = rw e (run_prints input s) in
-    omega (arith, ap length r.prints.reads, length-append s.page.filled (texts_of (said_by (take used input) s.session)), r.prints.keeps)
+    omega (arith, ap length r.prints.reads, length-append s.page.filled (texts_of (said_by (take used input) s.session)), r.prints.keeps, length-append t.page.filled t.page.rest)
 
 -- the end of the input likewise
-pub end_prints : (s : Stream) → most ≤ s.page.room → Prints s.page (texts_of (said_last s.session)) (on_end s).page
+pub end_prints : (s : Stream) → most ≤ room_of s.page → Prints s.page (texts_of (said_last s.session)) (on_end s).page
 end_prints s room =
     let short : length (texts_of (said_last s.session)) ≤ most = turn_short (last_turn s.session) s.session.memory in
     answers_print (said_last s.session) s.page (omega arith)

@@ -3,6 +3,7 @@
 use Rattle.std.proofs.Common.{◌≡◌, ℕ, ◌+◌, ◌<◌, ◌≤◌, true, List, [], ◌∷◌, length, get_or, drop, ap, ◌∙◌, arith, add-one, drop-cons}
 use Rattle.std.proofs.lemmas.Bool.{le-leb, lt-leb}
 use Rattle.std.proofs.lemmas.List.{drop_all}
+use Rattle.answers.specs.Answers.{room_of}
 use Rattle.session.specs.Bytes.{Stream, on_byte, roomy, Going, going, run_of, most}
 
 -- what is still to be run, after so many bytes
@@ -18,13 +19,13 @@ run_cons : (byte : ℕ) (input : List ℕ) (s : Stream) → roomy s.page ≡ tru
 unfolding run_of
 run_cons byte input s r = rw r
 
-pub run_on : (used : ℕ) (input : List ℕ) (s t : Stream) → used < length input → most ≤ s.page.room → t ≡ on_byte (get_or input used 0) s
+pub run_on : (used : ℕ) (input : List ℕ) (s t : Stream) → used < length input → most ≤ room_of s.page → t ≡ on_byte (get_or input used 0) s
     → rest (used + 1) input t ≡ rest used input s
 run_on used input s t h r e =
     let g : Going = run_of (drop (used + 1) input) t in
     let n : used + 1 + g.used ≡ used + (g.used + 1) = omega arith in
     let l : drop used input ≡ get_or input used 0 ∷ drop (used + 1) input = rw add-one (drop-cons input used 0 h) in
-    ap (λ (n : ℕ). going n g.stream) n ∙ rw (l, run_cons (get_or input used 0) (drop (used + 1) input) s (le-leb most s.page.room r), ← e)
+    ap (λ (n : ℕ). going n g.stream) n ∙ rw (l, run_cons (get_or input used 0) (drop (used + 1) input) s (le-leb most (room_of s.page) r), ← e)
 
 -- a run ends with the input, or where there is no room
 still : (used : ℕ) (s : Stream) → going used s ≡ after used (going 0 s)
@@ -34,10 +35,10 @@ pub run_ended : (used : ℕ) (input : List ℕ) (s : Stream) → used ≡ length
 unfolding run_of
 run_ended used input s e = rw (← e, drop_all used input (omega arith)) (still used s)
 
-run_stops : (used : ℕ) (input : List ℕ) (s : Stream) → s.page.room < most → going used s ≡ after used (run_of input s)
+run_stops : (used : ℕ) (input : List ℕ) (s : Stream) → room_of s.page < most → going used s ≡ after used (run_of input s)
 unfolding run_of
 run_stops used [] s r = still used s
-run_stops used (byte ∷ input) s r = rw (lt-leb most s.page.room r) (still used s)
+run_stops used (byte ∷ input) s r = rw (lt-leb most (room_of s.page) r) (still used s)
 
-pub run_full : (used : ℕ) (input : List ℕ) (s : Stream) → s.page.room < most → going used s ≡ rest used input s
+pub run_full : (used : ℕ) (input : List ℕ) (s : Stream) → room_of s.page < most → going used s ≡ rest used input s
 run_full used input s r = run_stops used (drop used input) s r

@@ -5,7 +5,7 @@ use Rattle.digits.specs.Choice.{pick}
 use Rattle.script.specs.Input.{Taken, taken_of, end_of}
 use Rattle.script.specs.declared.input.Reader.{Reader}
 use Rattle.script.specs.declared.turns.Turn.{Turn}
-use Rattle.answers.specs.Answers.{Page}
+use Rattle.answers.specs.Answers.{Page, room_of}
 use Rattle.answers.specs.declared.Answer.{Answer}
 use Rattle.turns.specs.Turns.{Memory, leaves, answers_of, printed}
 
@@ -58,7 +58,7 @@ most = 10263
 
 -- whether a page has room for what any turn prints
 abbrev pub roomy : Page → Bool
-roomy p = leb most p.room
+roomy p = leb most (room_of p)
 
 -- how many bytes were taken, and the stream after them
 pub record Going : Type 0 where

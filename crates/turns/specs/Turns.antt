@@ -1,9 +1,8 @@
 -- What a turn does to the pool and the map, and what it prints.
 -- Assumes nothing.
-use Rattle.std.specs.Prelude.{List, [], ◌∷◌, ◌++◌, ℕ, zero, suc, eqb, min, length, get_or, replicate, fold, Result, Ok, Err}
-use Rattle.digits.specs.Choice.{pick}
+use Rattle.std.specs.Prelude.{List, [], ◌∷◌, ◌++◌, ℕ, zero, suc, min, length, get_or, replicate, fold, Result}
 use Rattle.refusals.specs.declared.Refusal.{Refusal}
-use Rattle.refusals.specs.declared.Refusal.TheVariants.{Size, Damage, Absent, Full, Outside, Buffers, Retired}
+use Rattle.refusals.specs.Refusals.{answer_at}
 use Rattle.plan.specs.Plans.{all_but_last, the_switch, eadr, Ran, run_of, planned_for, Planned}
 use Rattle.finding.specs.Lookups.{lookup_of}
 use Rattle.finding.specs.Lookups as found
@@ -60,27 +59,13 @@ leaves (CutDelete n key) m = memory (reopened (delete_cut key m) n m).pool (reop
 leaves Nothing m = m
 leaves (Wrong line) m = m
 
--- the refusal of a number
-abbrev pub refusal_of : ℕ → Refusal
-refusal_of k =
-    pick (eqb k 1) Size
-    (pick (eqb k 2) Damage
-    (pick (eqb k 3) Absent
-    (pick (eqb k 4) Full
-    (pick (eqb k 5) Outside
-    (pick (eqb k 6) Buffers Retired)))))
-
--- an answer of the code, by its number and by what it gives where that is 0
-abbrev pub given : {A : Type 0} → ℕ → A → Result A Refusal
-given k a = pick (eqb k 0) (Ok a) (Err (refusal_of k))
-
 -- "P key value prints P, code, stores made.", "D key prints D, code, stores made."
 abbrev pub stores_made : call.Left → Result ℕ Refusal
-stores_made l = given l.done.number l.done.stores
+stores_made l = answer_at l.done.number l.done.stores
 
 -- "G key prints G, code, value, nodes."
 abbrev pub get_answer : found.Answer → Answer
-get_answer f = print.Get (given f.number f.value) f.nodes
+get_answer f = print.Get (answer_at f.number f.value) f.nodes
 
 -- "L prints L, key, value for each, then E and the count."
 unfoldable pub entries : ℕ → List ℕ → List ℕ → List Answer
@@ -93,7 +78,7 @@ list_answers s = entries (min s.answer.count (min (length s.keys) (length s.valu
 -- "that P or D prints C, its code, stores made, keys, headers rewritten"
 abbrev pub cut_answer : Planned → ℕ → Memory → Answer
 cut_answer planned n m =
-    print.Cut (given planned.number tt) (cut planned n m).steps (reopened planned n m).answer.keys (reopened planned n m).answer.headers
+    print.Cut (answer_at planned.number tt) (cut planned n m).steps (reopened planned n m).answer.keys (reopened planned n m).answer.headers
 
 -- what a turn prints
 unfoldable pub answers_of : Turn → Memory → List Answer

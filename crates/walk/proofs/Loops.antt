@@ -18,16 +18,6 @@ module _ (test : ℕ → Bool) where
   unfolding scan
   scan_suc n i e = rw (e, scan)
 
-  -- a scan of the places from i to m, one place on
-  pub scan_next : (m i : ℕ) → i < m → test i ≡ false → scan (m - i) i test ≡ scan (m - (i + 1)) (i + 1) test
-  scan_next m i h e =
-      let z : m - i ≡ suc (m - (i + 1)) = omega arith in
-      rw z (scan_suc (m - (i + 1)) i e)
-
-  pub scan_none : (n i : ℕ) → n ≡ 0 → i ≡ scan n i test
-  unfolding scan
-  scan_none n i e = rw e
-
   pub scan_true : (n i : ℕ) → scan n i test < i + n → test (scan n i test) ≡ true
   unfolding scan
   scan_true zero i h = absurd (omega arith)
