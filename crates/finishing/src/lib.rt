@@ -1,7 +1,7 @@
 // Finishing: what a plan does to the map.
 #![tactic(auto)]
 
-ghost use Rattle.std.specs.Prelude.{◌≡◌, length, replicate};
+ghost use Rattle.std.specs.Prelude.{◌≡◌};
 ghost use Rattle.refusals.specs.Refusals.{number_in};
 ghost use Rattle.plan.specs.Plans.{after, store_of};
 ghost use Rattle.finishing.specs.Finishes.{stores_of, finish_of, FinishGives};
@@ -50,11 +50,4 @@ pub fn finish(map: &mut [u8], plan: Plan) -> Result<(), Refusal>
     ensures { FinishGives plan map.old (after (number_in result) map.new) }
 {
     take_effect(map, plan.effect)
-}
-
-// Every byte of a map becomes 0: no slot is taken.
-pub fn clear(map: &mut [u8])
-    ensures { map.new ≡ replicate (length map.old) 0 }
-{
-    map.fill(0);
 }

@@ -51,6 +51,6 @@ pub fn format(pool: &mut [u64], map: &mut [u8], n: u64) -> Result<(), Refusal>
     Map::of(map, leaves).ok_or(Refusal::Size)?;
     pool[1] = 0;
     pool[0] = n;
-    finishing::clear(map);
+    map.fill(0);
     Ok(())
 }
