@@ -45,6 +45,17 @@ impl TryFrom<u64> for Generation {
     }
 }
 
+// Its number.
+impl From<Generation> for u64 {
+    ghost from_gives = { λ g k. k ≡ generation_number g };
+
+    fn from(generation: Generation) -> u64
+        ensures { result ≡ generation_number generation }
+    {
+        generation as u64
+    }
+}
+
 // At most 21 stores, each a word number and a value; unused places are 0. They are in groups, `first` of them in the first and the others, if
 // there are any, in the second; `fences` is how many fences the caller makes, one after each group or none. A step reads neither.
 #[derive(Clone, Copy)]
