@@ -91,7 +91,7 @@ fn plan_any(pool: &[u64]) -> Result<Plan, Refusal>
 pub fn plan_open(pool: &[u64], generation: u64) -> Result<Plan, Refusal>
     ensures { PlanOpenGives pool.now generation (outcome result) }
 {
-    let generation = Generation::try_from(generation)?;
+    Generation::try_from(generation)?;
     Ok(plan_any(pool)?.fenced(generation))
 }
 

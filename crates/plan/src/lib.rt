@@ -86,15 +86,17 @@ impl Plan {
         if 1 < count { 1 } else { count }
     }
 
-    // The fences of a plan of so many stores, of which so many are the first group: one after each group on ADR, none on eADR.
-    pub fn fences(generation: Generation, first: usize, count: usize) -> usize
-        ensures { result ≡ fences_of (generation_number generation) first count }
+    // The fences of a plan of so many stores, of which so many are the first group: one after each group on ADR, none on any other number.
+    pub fn fences(generation: u64, first: usize, count: usize) -> usize
+        ensures { result ≡ fences_of generation first count }
     {
-        match generation {
-            Generation::Eadr => 0,
-            Generation::Adr if count == 0 => 0,
-            Generation::Adr if first < count => 2,
-            Generation::Adr => 1,
+        if generation != u64::from(Generation::Adr) {
+            return 0;
+        }
+        match count {
+            0 => 0,
+            _ if first < count => 2,
+            _ => 1,
         }
     }
 
@@ -125,8 +127,8 @@ impl Plan {
     }
 
     // The same, with the fences of a generation.
-    pub fn fenced(self, generation: Generation) -> Plan
-        ensures { result ≡ fenced_plan (generation_number generation) self }
+    pub fn fenced(self, generation: u64) -> Plan
+        ensures { result ≡ fenced_plan generation self }
     {
         Plan {
             fences: Plan::fences(generation, self.first, self.count),

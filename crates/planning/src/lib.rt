@@ -92,7 +92,7 @@ where
     ensures { (d : Decided) (by : ℕ → ℕ) → by 0 ≡ 0 → IsGroup (λ c k. FnReturns G.Fn group (c, tt) k) by
         → IsDecided (λ r σ. FnOnceReturnsAtMut L.FnOnce lay [] r σ) d → outcome result ≡ planned_for generation by d }
 {
-    let generation = Generation::try_from(generation)?;
+    Generation::try_from(generation)?;
     let mut stores = Stores::new();
     let effect = lay(&mut stores)?;
     let first = group(stores.len());
