@@ -113,14 +113,18 @@ pub fn taken_in(plan: &[u64]) -> Plan
     requires { length plan.now ≡ 53 }
     ensures { result ≡ plan_in plan.now }
 {
-    let effect = effect_in(plan[EFFECT], plan[LEAF] as usize, plan[NODE] as usize);
-    let mut taken = Plan::none(effect);
-    taken.count = plan[COUNT] as usize;
-    taken.first = plan[FIRST] as usize;
-    taken.fences = plan[FENCES] as usize;
+    let mut words = [0; Plan::MOST];
+    let mut values = [0; Plan::MOST];
     for i in 0..Plan::MOST {
-        taken.words[i] = plan[HEAD + i] as usize;
-        taken.values[i] = plan[VALUES + i];
+        words[i] = plan[HEAD + i] as usize;
+        values[i] = plan[VALUES + i];
     }
-    taken
+    Plan {
+        words,
+        values,
+        count: plan[COUNT] as usize,
+        first: plan[FIRST] as usize,
+        fences: plan[FENCES] as usize,
+        effect: effect_in(plan[EFFECT], plan[LEAF] as usize, plan[NODE] as usize),
+    }
 }

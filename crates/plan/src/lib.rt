@@ -153,10 +153,11 @@ fn store(pool: &mut [u64], word: usize, value: u64) -> Result<(), Refusal>
 pub fn step(pool: &mut [u64], plan: Plan, at: usize) -> Result<(), Refusal>
     ensures { StepGives plan at pool.old (after (number_in result) pool.new) }
 {
+    let (words, values) = (plan.words, plan.values); // apart: so a plan that is made for one step is not copied
     if Plan::MOST < plan.count || plan.count <= at {
         return Err(Refusal::Outside);
     }
-    store(pool, plan.words[at], plan.values[at])
+    store(pool, words[at], values[at])
 }
 
 // The first stores of these two lists, at most so many, one after the other until one is refused; how many were made. No other loop stores to a pool.
