@@ -135,6 +135,17 @@ byte_flat m = pick_both (λ b. b ≤ 1) (eqb m 0) (omega arith) (omega arith)
 pub bytes_flat : (marks : List ℕ) (i : ℕ) → get_or (map reached marks) i 0 ≤ 1
 bytes_flat marks i = rw (get_or-map reached marks i 0) (byte_flat (get_or marks i 0))
 
+flat_same : (m : ℕ) → eqb (reached m) 0 ≡ eqb m 0
+flat_same m = go (eqb m 0)
+  where
+    go : (t : Bool) → eqb (pick t 0 1) 0 ≡ t
+    go true = refl
+    go false = refl
+
+-- and just as many slots are reached
+pub keys_flat : (n : ℕ) (marks : List ℕ) → keys_of n (map reached marks) ≡ keys_of n marks
+keys_flat n marks = tally_same _ _ n (λ i l. rw (get_or-map reached marks i 0) (ap not (flat_same (get_or marks i 0))))
+
 -- ---- what is judged, by what `survey` told
 module _ (pool : List ℕ) (n : ℕ) {m : List ℕ} {r : Bool} (told : Found m r (survey_of pool n)) where
   judged : {t : Bool} → r ≡ t → (survey_of pool n).census.sound ≡ t
