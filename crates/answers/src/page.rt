@@ -3,7 +3,7 @@ ghost use Rattle.std.specs.Prelude.{◌≡◌, ◌≤◌, [], length};
 
 use crate::Answer;
 
-// A page that is filled from its start: the bytes that it was lent, and up to where they are filled. It holds the caller's own bytes until it is over, so each function that takes a page ensures that it is still the same that it holds.
+// A page that is filled from its start: the bytes that it was lent, and up to where they are filled. Its caller knows what these hold once it is over, since each function that takes a page ensures that it still holds the same ones.
 #[derive(Drop)]
 pub struct Page<'a> {
     pub bytes: &'a mut [u8],

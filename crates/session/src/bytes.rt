@@ -30,6 +30,7 @@ pub fn run(
     let mut session = Session::on(reader, pool, map);
     let mut page = Page::new(out);
     let used = session.run(input, &mut page);
+    // Copied from behind a reference: a reader taken out of the session would leave it in parts, of which nothing is told when they end.
     let reader = &session.reader;
     Progress {
         used,

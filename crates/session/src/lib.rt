@@ -33,7 +33,7 @@ pub fn start(pool: &mut [u64; WORDS], map: &mut [u8; BYTES])
     let _ = writing::format(pool, map, 256);
 }
 
-// The reader of the input, and the pool and the map that its turns act on. It holds the caller's own pool and map until it is over, so each function that takes a session ensures that they are still the same that it holds.
+// The reader of the input, and the pool and the map that it was lent, on which its turns act. Its caller knows what these hold once it is over, since each function that takes a session ensures that it still holds the same ones.
 #[derive(Drop)]
 pub struct Session<'a> {
     pub reader: Reader,
