@@ -1,6 +1,6 @@
 -- What an answer is printed as, and where it goes.
 -- Assumes nothing.
-use Rattle.std.specs.Prelude.{List, [], ◌∷◌, ◌++◌, ℕ, min, ltb, length, get_or, drop, Result}
+use Rattle.std.specs.Prelude.{List, [], ◌∷◌, ◌++◌, ℕ, min, ltb, length, get_or, take, drop, Result}
 use Rattle.std.specs.Result.{result_unwrap_or}
 use Rattle.digits.specs.Choice.{pick}
 use Rattle.digits.specs.Loops.{upto}
@@ -10,6 +10,7 @@ use Rattle.script.specs.Bytes.{tab, newline, query, letter_C, letter_D, letter_E
 use Rattle.answers.specs.Numbers.{decimal_of, hex_of}
 use Rattle.answers.specs.declared.Answer.{Answer}
 use Rattle.answers.specs.declared.Answer.TheVariants.{Put, Delete, Get, Entry, End, Cut, Wrong}
+use Rattle.answers.specs.declared.page.Page.{Page as Held}
 
 -- "Fields are parted by a tab": the fields of some numbers, and the text after them
 unfoldable pub fields_of : List ℕ → List ℕ → List ℕ
@@ -46,6 +47,14 @@ pub record Page : Type 0 where
 
 abbrev pub page : List ℕ → List ℕ → Page
 page filled rest = record { filled = filled; rest = rest }
+
+-- bytes as a page that is filled up to a place
+abbrev pub filled_to : ℕ → List ℕ → Page
+filled_to end bytes = page (take end bytes) (drop end bytes)
+
+-- a page of the code's
+abbrev pub on : Held → Page
+on p = filled_to p.end p.bytes.now
 
 abbrev pub room_of : Page → ℕ
 room_of p = length p.rest

@@ -1,53 +1,45 @@
 // The page that answers go onto.
-ghost use Rattle.std.specs.Prelude.{◌≡◌, []};
-ghost use Rattle.answers.specs.Answers.{text_of, page, room_of, written, emptied, listing_of};
+ghost use Rattle.std.specs.Prelude.{◌≡◌, ◌≤◌, [], length};
 
 use crate::Answer;
-use std::marker::Model;
 
-// A page that is filled from its start. A clause sees the bytes that are on it, and those behind them.
+// A page that is filled from its start: the bytes that it was lent, and up to where they are filled. Its caller knows what these hold once it is over, since each function that takes a page ensures that it still holds the same ones.
 #[derive(Drop)]
 pub struct Page<'a> {
-    bytes: &'a mut [u8],
-    end: usize,
-}
-
-impl<'a> Model for Page<'a> {
-    ghost use Rattle.std.specs.Prelude.{◌≤◌, length, take, drop};
-    ghost use Rattle.answers.specs.Answers.{Page as Filling, page};
-
-    ghost Value = { Filling };
-
-    ghost view = { λ p. page (take p.end p.bytes.now) (drop p.end p.bytes.now) };
-
-    ghost invariant = { λ p. p.end ≤ length p.bytes.now };
+    pub bytes: &'a mut [u8],
+    pub end: usize,
+    pub ghost within: { end ≤ length bytes.now },
 }
 
 impl<'a> Page<'a> {
+    ghost use Rattle.answers.specs.Answers.{text_of, page, on, room_of, written, emptied, listing_of};
+
     // A page with nothing on it.
     pub fn new(bytes: &'a mut [u8]) -> Page<'a>
-        ensures { result ≡ page [] bytes.old }
+        ensures same { result.bytes.ghost_name ≡ bytes.entry.ghost_name }
+        ensures page { on result ≡ page [] bytes.old }
     {
         Page { bytes, end: 0 }
     }
 
     // The bytes that are on it.
     pub fn filled(&self) -> &[u8]
-        ensures { result.now ≡ self.now.filled }
+        ensures { result.now ≡ (on self.now).filled }
     {
         &self.bytes[..self.end]
     }
 
     // How many more bytes it has room for.
     pub fn room(&self) -> usize
-        ensures { result ≡ room_of self.now }
+        ensures { result ≡ room_of (on self.now) }
     {
         self.bytes.len() - self.end
     }
 
     // Takes everything off it.
     pub fn clear(&mut self)
-        ensures { self.new ≡ emptied self.old }
+        ensures same { self.new.bytes.ghost_name ≡ self.old.bytes.ghost_name }
+        ensures page { on self.new ≡ emptied (on self.old) }
     {
         self.end = 0;
     }
@@ -55,7 +47,8 @@ impl<'a> Page<'a> {
     // A text goes onto it, whole or not at all.
     #[tactic(auto, using(crate::proofs::Pages::written_whole, crate::proofs::Pages::written_not, std::proofs::lemmas::Slice::overwrites))]
     fn append(&mut self, text: &[u8])
-        ensures { self.new ≡ written text.now self.old }
+        ensures same { self.new.bytes.ghost_name ≡ self.old.bytes.ghost_name }
+        ensures page { on self.new ≡ written text.now (on self.old) }
     {
         if text.len() <= self.room() {
             let end = self.end + text.len();
@@ -67,14 +60,16 @@ impl<'a> Page<'a> {
 
     // An answer goes onto it, whole or not at all.
     pub fn write_answer(&mut self, answer: Answer)
-        ensures { self.new ≡ written (text_of answer) self.old }
+        ensures same { self.new.bytes.ghost_name ≡ self.old.bytes.ghost_name }
+        ensures page { on self.new ≡ written (text_of answer) (on self.old) }
     {
         self.append(answer.text().as_bytes());
     }
 
     // The entries of a listing go onto it, and their count.
     pub fn write_listing(&mut self, keys: &[u64], values: &[u64], count: usize)
-        ensures { self.new ≡ listing_of keys.now values.now count self.old }
+        ensures same { self.new.bytes.ghost_name ≡ self.old.bytes.ghost_name }
+        ensures page { on self.new ≡ listing_of keys.now values.now count (on self.old) }
     {
         for (key, value) in keys.iter().zip(values).take(count) {
             self.write_answer(Answer::Entry(*key, *value));

@@ -1,4 +1,4 @@
--- Stores that are handed out from where they are laid out: a run of 53 words has room for 21.
+-- Stores that are handed on from where they are laid out: a run of 53 words has room for 21.
 -- Assumes nothing.
 use Rattle.std.proofs.Common.{◌≡◌, ℕ, ◌+◌, ◌-◌, ◌≤◌, List, ◌++◌, length, map, replicate, arith}
 use lib.ListN.{length-append, length-map, length-replicate}

@@ -1,12 +1,12 @@
 // A plan as a run of words, as include/wort.h has it: handed out, and taken in again.
 #![tactic(auto)]
 
-ghost use Rattle.std.specs.Prelude.{◌≡◌, [], ◌∷◌, ◌++◌, length, take};
+ghost use Rattle.std.specs.Prelude.{◌≡◌, [], ◌∷◌, ◌++◌, length, take, Err};
 ghost use Rattle.std.proofs.lemmas.List.Edits.{sets};
-ghost use Rattle.plan.specs.Plans.{outcome};
+ghost use Rattle.plan.specs.Plans.{outcome, laid_for};
 ghost use Rattle.handing.specs.Plans.{effect_words, spared, words_of, effect_of, plan_in, planned, planned_in};
 
-use plan::{Effect, Plan};
+use plan::{Effect, Generation, Plan, Stores};
 use refusals::Refusal;
 
 // Where a plan's words stand: seven of the head, then so many places for word numbers and as many for values.
@@ -83,16 +83,66 @@ pub fn lay_plan(
     lay_stores(plan, words, values);
 }
 
-// Hands out what a planning call answers: with a refusal, a plan that does nothing.
-pub fn hand_out(plan: &mut [u64; 53], answer: Result<Plan, Refusal>) -> u64
-    ensures { planned result plan.new ≡ planned_in (outcome answer) }
+// Hands out a number, and a plan.
+pub fn hand_out(out: &mut [u64; 53], number: u64, plan: &Plan) -> u64
+    ensures { planned result out.new ≡ planned number (words_of plan.now) }
 {
-    let number = refusals::number(&answer);
-    let p = answer.unwrap_or(Plan::none(Effect::Nothing));
     lay_plan(
-        plan, p.count, p.first, p.fences, p.effect, &p.words, &p.values,
+        out,
+        plan.count,
+        plan.first,
+        plan.fences,
+        plan.effect,
+        &plan.words,
+        &plan.values,
     );
     number
+}
+
+// Hands out a refusal: its number, and a plan that does nothing.
+fn refuse(out: &mut [u64; 53], refusal: Refusal) -> u64
+    ensures { planned result out.new ≡ planned_in (outcome (Err refusal)) }
+{
+    out.fill(0);
+    u64::from(refusal)
+}
+
+// Hands out what a planning call answers: with a refusal, a plan that does nothing.
+pub fn hand_answer(out: &mut [u64; 53], answer: Result<Plan, Refusal>) -> u64
+    ensures { planned result out.new ≡ planned_in (outcome answer) }
+{
+    match &answer {
+        Ok(plan) => hand_out(out, 0, plan),
+        Err(refusal) => refuse(out, *refusal),
+    }
+}
+
+// Hands on stores from where they are laid out for a generation, so many of which are the first group; with a refusal, a plan that does nothing.
+pub fn hand_on(
+    out: &mut [u64; 53],
+    first: usize,
+    stores: &Stores<{ Plan::MOST }>,
+    laid: Result<(Generation, Effect), Refusal>,
+) -> u64
+    ensures { planned result out.new ≡ planned_in (outcome (laid_for (λ _. first) laid stores.now)) }
+{
+    match laid {
+        Ok((generation, effect)) => {
+            let count = stores.len();
+            let fences = Plan::fences(u64::from(generation), first, count);
+            lay_plan(
+                out,
+                count,
+                first,
+                fences,
+                effect,
+                stores.words(),
+                stores.values(),
+            );
+            0
+        }
+        Err(refusal) => refuse(out, refusal),
+    }
 }
 
 // The effect that three words say; a kind that there is not is nothing.
@@ -113,14 +163,18 @@ pub fn taken_in(plan: &[u64]) -> Plan
     requires { length plan.now ≡ 53 }
     ensures { result ≡ plan_in plan.now }
 {
-    let effect = effect_in(plan[EFFECT], plan[LEAF] as usize, plan[NODE] as usize);
-    let mut taken = Plan::none(effect);
-    taken.count = plan[COUNT] as usize;
-    taken.first = plan[FIRST] as usize;
-    taken.fences = plan[FENCES] as usize;
+    let mut words = [0; Plan::MOST];
+    let mut values = [0; Plan::MOST];
     for i in 0..Plan::MOST {
-        taken.words[i] = plan[HEAD + i] as usize;
-        taken.values[i] = plan[VALUES + i];
+        words[i] = plan[HEAD + i] as usize;
+        values[i] = plan[VALUES + i];
     }
-    taken
+    Plan {
+        words,
+        values,
+        count: plan[COUNT] as usize,
+        first: plan[FIRST] as usize,
+        fences: plan[FENCES] as usize,
+        effect: effect_in(plan[EFFECT], plan[LEAF] as usize, plan[NODE] as usize),
+    }
 }

@@ -21,12 +21,12 @@ use Rattle.pool.specs.Places.{header_at, node_word, node_ref}
 use Rattle.walk.specs.Walks.{head_of, lowest_of}
 use Rattle.walk.specs.declared.Fault.{Fault}
 use Rattle.walk.proofs.Loops.{tally_le}
-use Rattle.plan.specs.Plans.{one_group, made, plan_of, planned_of, refused, Ran, ran, run_of}
+use Rattle.plan.specs.Plans.{one_group, made, plan_of, planned_of, refused, Ran, ran, makes_of}
 use Rattle.plan.specs.declared.Plan.{Plan}
 use Rattle.plan.specs.declared.Effect.TheVariants.{Nothing}
-use Rattle.plan.proofs.Laws.{run_whole}
+use Rattle.plan.proofs.Laws.{makes_all}
 use Rattle.survey.specs.Surveys.{survey_of, Found}
-use Rattle.survey.proofs.Loops.{pick_both}
+use Rattle.survey.proofs.Loops.{pick_both, tally_same}
 use Rattle.opening.specs.Openings.{depth_marked, stale, stale_depth, mend_with, mend_at, mend_of, first_stale, mend_first, open_judged, mends, mend_node, reached, keys_of, opened, Left, left, restored, left_judged}
 
 -- ---- the map's bytes
@@ -118,15 +118,14 @@ module _ (n : ℕ) (marks : List ℕ) (j : ℕ) (pool : List ℕ) {t : Bool} (is
   pub mend_unneeded : t ≡ false → mends pool 0 ≡ mend_node n marks j (mends pool 0)
   mend_unneeded h = rw (← is, h)
 
-  -- the plan that mends it, run
-  pub mend_done : t ≡ true → {w r : ℕ} {p : Plan} {l : List ℕ} → w ≡ depth_marked marks n j → node_word n j < length pool → p ≡ plan_of one_group (mend_of pool n w j) Nothing
-      → ran r l ≡ run_of 1 p pool → mends l r ≡ mend_node n marks j (mends pool 0)
+  -- the store that mends it, if there is one, made
+  pub mend_done : t ≡ true → {w r : ℕ} {σ : List Store} {l : List ℕ} → w ≡ depth_marked marks n j → node_word n j < length pool → σ ≡ mend_of pool n w j
+      → ran r l ≡ makes_of (length σ) σ pool → mends l r ≡ mend_node n marks j (mends pool 0)
   mend_done needed {w} depth h q a =
-      let σ : List Store = mend_of pool n w j in
-      let one : length σ ≤ 1 = at_most_one_store pool n w j in
-      let m : ran (length σ) (made σ pool) ≡ ran (0 + length σ) (made σ pool) = ap (λ (k : ℕ). ran k (made σ pool)) (omega arith) in
+      let τ : List Store = mend_of pool n w j in
+      let m : ran (length τ) (made τ pool) ≡ ran (0 + length τ) (made τ pool) = ap (λ (k : ℕ). ran k (made τ pool)) (omega arith) in
       rw (← is, needed, ← depth)
-      (ap (λ (z : Ran). mends z.left z.steps) (a ∙ rw q (run_whole one_group σ Nothing (omega arith) pool (mend_inside pool n w j h) 1 one) ∙ m))
+      (ap (λ (z : Ran). mends z.left z.steps) (a ∙ rw q (makes_all (length τ) τ pool (omega arith) (mend_inside pool n w j h)) ∙ m))
 
 -- ---- the map rebuilt
 byte_flat : (m : ℕ) → reached m ≤ 1
@@ -135,6 +134,17 @@ byte_flat m = pick_both (λ b. b ≤ 1) (eqb m 0) (omega arith) (omega arith)
 -- its bytes are 0 or 1
 pub bytes_flat : (marks : List ℕ) (i : ℕ) → get_or (map reached marks) i 0 ≤ 1
 bytes_flat marks i = rw (get_or-map reached marks i 0) (byte_flat (get_or marks i 0))
+
+flat_same : (m : ℕ) → eqb (reached m) 0 ≡ eqb m 0
+flat_same m = go (eqb m 0)
+  where
+    go : (t : Bool) → eqb (pick t 0 1) 0 ≡ t
+    go true = refl
+    go false = refl
+
+-- and just as many slots are reached
+pub keys_flat : (n : ℕ) (marks : List ℕ) → keys_of n (map reached marks) ≡ keys_of n marks
+keys_flat n marks = tally_same _ _ n (λ i l. rw (get_or-map reached marks i 0) (ap not (flat_same (get_or marks i 0))))
 
 -- ---- what is judged, by what `survey` told
 module _ (pool : List ℕ) (n : ℕ) {m : List ℕ} {r : Bool} (told : Found m r (survey_of pool n)) where

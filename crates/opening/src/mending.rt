@@ -6,7 +6,7 @@ ghost use Rattle.survey.specs.Surveys.{survey_of};
 ghost use Rattle.opening.specs.Openings.{stale_depth, mend_of, fresh_stores, mend_first, open_judged, open_plan, PlanOpenGives, mends, mend_node, mended, reached, keys_of, told, left, restored, left_judged, OpenGives};
 
 use digits::Header;
-use plan::{Effect, Generation, Plan};
+use plan::{Effect, Generation, Plan, Stores};
 use pool::{Map, Pool};
 use refusals::Refusal;
 
@@ -91,7 +91,7 @@ fn plan_any(pool: &[u64]) -> Result<Plan, Refusal>
 pub fn plan_open(pool: &[u64], generation: u64) -> Result<Plan, Refusal>
     ensures { PlanOpenGives pool.now generation (outcome result) }
 {
-    let generation = Generation::try_from(generation)?;
+    Generation::try_from(generation)?;
     Ok(plan_any(pool)?.fenced(generation))
 }
 
@@ -107,8 +107,12 @@ fn mend_node(pool: &mut [u64], map: &Map, j: usize) -> usize
     let Some(w) = stale_depth(&before, map, j) else {
         return 0;
     };
-    let plan = mend_plan(&before, w, j);
-    plan::run(pool, plan, 1)
+    let Some(word) = fresh_header(&before, w, j) else {
+        return 0;
+    };
+    let mut stores = Stores::<1>::new();
+    stores.push(pool::node_word(map.n, j), word);
+    stores.make(pool)
 }
 
 // Mends every stale header, lower-numbered nodes first, one store each.

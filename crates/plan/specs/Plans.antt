@@ -116,6 +116,11 @@ abbrev pub outcome : Result Plan Refusal → Planned
 outcome (Ok p) = record { number = 0; plan = p }
 outcome (Err r) = planned_of one_group (refused (number_of r))
 
+-- the plan of the stores that were laid out for a generation
+abbrev pub laid_for : (ℕ → ℕ) → Result (Generation × Effect) Refusal → List Store → Result Plan Refusal
+laid_for group (Ok p) σ = Ok (fenced_plan (generation_number p.0) (plan_of group σ p.1))
+laid_for group (Err r) σ = Err r
+
 -- the number given back, and the words or bytes after the call
 pub record After : Type 0 where
   pub number : ℕ

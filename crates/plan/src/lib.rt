@@ -45,6 +45,17 @@ impl TryFrom<u64> for Generation {
     }
 }
 
+// Its number.
+impl From<Generation> for u64 {
+    ghost from_gives = { λ g k. k ≡ generation_number g };
+
+    fn from(generation: Generation) -> u64
+        ensures { result ≡ generation_number generation }
+    {
+        generation as u64
+    }
+}
+
 // At most 21 stores, each a word number and a value; unused places are 0. They are in groups, `first` of them in the first and the others, if
 // there are any, in the second; `fences` is how many fences the caller makes, one after each group or none. A step reads neither.
 #[derive(Clone, Copy)]
@@ -75,15 +86,17 @@ impl Plan {
         if 1 < count { 1 } else { count }
     }
 
-    // The fences of a plan of so many stores, of which so many are the first group: one after each group on ADR, none on eADR.
-    pub fn fences(generation: Generation, first: usize, count: usize) -> usize
-        ensures { result ≡ fences_of (generation_number generation) first count }
+    // The fences of a plan of so many stores, of which so many are the first group: one after each group on ADR, none on any other number.
+    pub fn fences(generation: u64, first: usize, count: usize) -> usize
+        ensures { result ≡ fences_of generation first count }
     {
-        match generation {
-            Generation::Eadr => 0,
-            Generation::Adr if count == 0 => 0,
-            Generation::Adr if first < count => 2,
-            Generation::Adr => 1,
+        if generation != u64::from(Generation::Adr) {
+            return 0;
+        }
+        match count {
+            0 => 0,
+            _ if first < count => 2,
+            _ => 1,
         }
     }
 
@@ -114,8 +127,8 @@ impl Plan {
     }
 
     // The same, with the fences of a generation.
-    pub fn fenced(self, generation: Generation) -> Plan
-        ensures { result ≡ fenced_plan (generation_number generation) self }
+    pub fn fenced(self, generation: u64) -> Plan
+        ensures { result ≡ fenced_plan generation self }
     {
         Plan {
             fences: Plan::fences(generation, self.first, self.count),
@@ -140,10 +153,11 @@ fn store(pool: &mut [u64], word: usize, value: u64) -> Result<(), Refusal>
 pub fn step(pool: &mut [u64], plan: Plan, at: usize) -> Result<(), Refusal>
     ensures { StepGives plan at pool.old (after (number_in result) pool.new) }
 {
+    let (words, values) = (plan.words, plan.values); // apart: so a plan that is made for one step is not copied
     if Plan::MOST < plan.count || plan.count <= at {
         return Err(Refusal::Outside);
     }
-    store(pool, plan.words[at], plan.values[at])
+    store(pool, words[at], values[at])
 }
 
 // The first stores of these two lists, at most so many, one after the other until one is refused; how many were made. No other loop stores to a pool.

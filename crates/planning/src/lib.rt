@@ -3,11 +3,11 @@
 
 ghost use Rattle.std.specs.Prelude.{◌≡◌, [], ℕ, OnErr};
 ghost use Rattle.std.specs.Fn.{FnReturns, FnOnceTakesAtMut, FnOnceReturnsAtMut};
-ghost use Rattle.plan.specs.Plans.{all_but_last, outcome, planned_for, Decided};
+ghost use Rattle.plan.specs.Plans.{all_but_last, the_switch, outcome, laid_for, planned_for, Decided};
 ghost use Rattle.rules.specs.Puts.{put_plan, PlanPutGives};
 ghost use Rattle.rules.specs.Deletes.{delete_plan, PlanDeleteGives};
 ghost use Rattle.placing.specs.Leads.{plan_at, Able};
-ghost use Rattle.planning.specs.Gathered.{gathered, IsDecided, IsGroup, laid_for};
+ghost use Rattle.planning.specs.Gathered.{gathered, IsDecided, IsGroup};
 
 use placing::{Place, find_place};
 use plan::{Effect, Generation, Plan, Stores};
@@ -74,7 +74,8 @@ fn lay_delete(
     key: u64,
 ) -> Result<Effect, Refusal>
     requires { stores.old ≡ [] }
-    ensures { gathered result stores.new ≡ delete_plan pool.now key }
+    ensures plans { gathered result stores.new ≡ delete_plan pool.now key }
+    ensures nothing { OnErr result (stores.new ≡ []) }
 {
     let pool = Pool::of(pool).ok_or(Refusal::Size)?;
     let removal = find_removal(&pool, key)?;
@@ -92,7 +93,7 @@ where
     ensures { (d : Decided) (by : ℕ → ℕ) → by 0 ≡ 0 → IsGroup (λ c k. FnReturns G.Fn group (c, tt) k) by
         → IsDecided (λ r σ. FnOnceReturnsAtMut L.FnOnce lay [] r σ) d → outcome result ≡ planned_for generation by d }
 {
-    let generation = Generation::try_from(generation)?;
+    Generation::try_from(generation)?;
     let mut stores = Stores::new();
     let effect = lay(&mut stores)?;
     let first = group(stores.len());
@@ -113,8 +114,22 @@ pub fn lay_put_for(
     ensures nothing { OnErr result (stores.new ≡ []) }
 {
     let generation = Generation::try_from(generation)?;
-    let effect = lay_put(stores, pool, map, key, value)?;
-    Ok((generation, effect))
+    Ok((generation, lay_put(stores, pool, map, key, value)?))
+}
+
+// What a delete stores, in order, likewise.
+pub fn lay_delete_for(
+    stores: &mut Stores<{ Plan::MOST }>,
+    pool: &[u64],
+    key: u64,
+    generation: u64,
+) -> Result<(Generation, Effect), Refusal>
+    requires { stores.old ≡ [] }
+    ensures plans { PlanDeleteGives pool.now key generation (outcome (laid_for the_switch result stores.new)) }
+    ensures nothing { OnErr result (stores.new ≡ []) }
+{
+    let generation = Generation::try_from(generation)?;
+    Ok((generation, lay_delete(stores, pool, key)?))
 }
 
 // What a put stores, in order, and its fences on a generation.

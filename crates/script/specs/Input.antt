@@ -11,7 +11,7 @@ use Rattle.script.specs.declared.turns.Turn.TheVariants.{Nothing}
 use Rattle.script.specs.declared.input.Reader.{Reader}
 
 abbrev pub reader : List ℕ → Shell → Reader
-reader line shell = record { line = record { items = line }; shell = shell }
+reader line shell = record { line = line; shell = shell }
 
 -- before the first byte
 abbrev pub begun : Reader
@@ -30,12 +30,12 @@ abbrev pub ended : Step → Taken
 ended s = taken s.turn (reader [] s.shell)
 
 abbrev pub whole : Reader → Taken
-whole r = ended (turn_of r.shell (command_of r.line.items))
+whole r = ended (turn_of r.shell (command_of r.line))
 
 -- what is to be done at a byte: a newline ends the line, and a line that is not whole yet asks for nothing
 abbrev pub taken_of : Reader → ℕ → Taken
-taken_of r byte = pick (eqb byte newline) (whole r) (taken Nothing (reader (kept_of r.line.items byte) r.shell))
+taken_of r byte = pick (eqb byte newline) (whole r) (taken Nothing (reader (kept_of r.line byte) r.shell))
 
 -- the end of the input: "The last line may lack its newline."
 abbrev pub end_of : Reader → Taken
-end_of r = pick (eqb (length r.line.items) 0) (taken Nothing r) (whole r)
+end_of r = pick (eqb (length r.line) 0) (taken Nothing r) (whole r)

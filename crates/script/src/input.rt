@@ -2,18 +2,14 @@
 ghost use Rattle.std.specs.Prelude.{◌≡◌};
 ghost use Rattle.script.specs.Input.{begun, taken, whole, taken_of, end_of};
 
-use crate::lines;
+use crate::lines::{self, Line};
 use crate::turns::{Shell, Turn};
-use arrayvec::ArrayVec;
-
-// Bytes of a line that are kept: one more than a right line can have, so that a longer one is seen to be too long.
-const KEPT: usize = 64;
 
 // The line that is being gathered, and the state that the lines before it left.
-#[derive(Drop)]
+#[derive(Clone, Copy)]
 pub struct Reader {
-    line: ArrayVec<u8, KEPT>,
-    shell: Shell,
+    pub line: Line,
+    pub shell: Shell,
 }
 
 impl Reader {
@@ -22,7 +18,7 @@ impl Reader {
         ensures { result ≡ begun }
     {
         Reader {
-            line: ArrayVec::new(),
+            line: Line::new(),
             shell: Shell::new(),
         }
     }
@@ -34,8 +30,7 @@ impl Reader {
         if byte == b'\n' {
             return self.end_line();
         }
-        // A byte that there is no room for is dropped.
-        let _ = self.line.try_push(byte);
+        self.line.push(byte);
         Turn::Nothing
     }
 

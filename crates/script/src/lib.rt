@@ -6,5 +6,5 @@ mod lines;
 mod turns;
 
 pub use input::Reader;
-pub use lines::{Command, command_of};
+pub use lines::{Command, LINE, Line, command_of};
 pub use turns::{Shell, Turn};

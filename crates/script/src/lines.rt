@@ -1,7 +1,9 @@
 // Bytes to lines, and a line to a command.
-ghost use Rattle.std.specs.Prelude.{◌≡◌};
+ghost use Rattle.std.specs.Prelude.{◌≡◌, [], eqb, length};
 ghost use Rattle.script.specs.Numbers.{value_of, with_digit, number_from, key_of, number_of};
-ghost use Rattle.script.specs.Lines.{key_and_value_of, tagged_of, command_of};
+ghost use Rattle.script.specs.Lines.{key_and_value_of, tagged_of, command_of, kept_of};
+
+use std::marker::Model;
 
 // A line's command.
 #[derive(Clone, Copy)]
@@ -15,6 +17,9 @@ pub enum Command {
 
 // Bytes of a line, at most.
 const LONGEST: usize = 63;
+
+// Bytes of a line that are kept: one more than a right line can have, so that a longer one is seen to be too long.
+pub const LINE: usize = 64;
 
 // Stores after which a cut comes, at most.
 const CUT: u64 = 21;
@@ -114,5 +119,72 @@ pub fn command_of(line: &[u8]) -> Option<Command>
         [b'L'] => Some(Command::Listing),
         [tag, b'\t', rest @ ..] => tagged(*tag, rest),
         _ => None,
+    }
+}
+
+// What is kept of the line that is being gathered.
+#[derive(Clone, Copy)]
+pub struct Line {
+    bytes: [u8; LINE],
+    len: usize,
+}
+
+// Clauses see the bytes that are kept. The places behind them are 0, so that these bytes say what the line is in memory, and it can be copied.
+impl Model for Line {
+    ghost use Rattle.std.specs.Prelude.{List, ℕ, length, take};
+    ghost use Rattle.script.specs.declared.lines.TheConstants.{LINE};
+
+    ghost Value = { List ℕ };
+
+    ghost use Rattle.script.specs.Kept.{laid, IsLaid, laid_back};
+
+    ghost view = { λ line. take line.len line.bytes };
+
+    ghost invariant = { λ line. IsLaid LINE line.len line.bytes };
+
+    ghost inverse = { λ kept. record { bytes = laid LINE kept; len = length kept } };
+
+    ghost inverse_ok = { laid_back LINE };
+}
+
+impl Line {
+    // A line with no byte.
+    pub fn new() -> Self
+        ensures { result ≡ [] }
+    {
+        Line {
+            bytes: [0; LINE],
+            len: 0,
+        }
+    }
+
+    pub fn is_empty(&self) -> bool
+        ensures { result ≡ eqb (length self.now) 0 }
+    {
+        self.len == 0
+    }
+
+    // The bytes that are kept.
+    pub fn as_slice(&self) -> &[u8]
+        ensures { result.now ≡ self.now }
+    {
+        &self.bytes[..self.len]
+    }
+
+    // One byte more; it is dropped where there is no room.
+    pub fn push(&mut self, byte: u8)
+        ensures { self.new ≡ kept_of self.old byte }
+    {
+        if self.len < LINE {
+            self.bytes[self.len] = byte;
+            self.len += 1;
+        }
+    }
+
+    // The next line begins.
+    pub fn clear(&mut self)
+        ensures { self.new ≡ [] }
+    {
+        *self = Line::new();
     }
 }

@@ -1,7 +1,8 @@
 // Runs the scripts that standard input names, each with the file of its answers, and says whether `names` answers so.
 #![tactic(auto)]
 
-use arrayvec::ArrayVec;
+ghost use Rattle.std.specs.Prelude.{◌≤◌, length, IfOk};
+
 use session::Session;
 use std::fs::File;
 use std::io;
@@ -47,8 +48,24 @@ fn run_all(rt: &(impl Files + Print + Eprint), list: &[u8]) -> io::Result<()> {
     Ok(())
 }
 
+// Reads until the buffer is full or the input ends; fails where a read fails, also where it was interrupted. How many bytes were read.
+fn read_full(source: &mut impl Read, buf: &mut [u8]) -> io::Result<usize>
+    ensures { IfOk result (λ n. n ≤ length buf.new) }
+{
+    let len = buf.len();
+    let mut free = buf;
+    while !free.is_empty() {
+        let n = source.read(free)?;
+        if n == 0 {
+            break;
+        }
+        free = &mut free[n..];
+    }
+    Ok(len - free.len())
+}
+
 fn main(rt: HostRuntime) -> io::Result<()> {
-    let mut list = ArrayVec::<u8, 4096>::new();
-    io::copy(&mut rt.stdin().take(4096), &mut list)?;
-    run_all(&rt, &list)
+    let mut list = [0; 4096];
+    let n = read_full(&mut rt.stdin(), &mut list)?;
+    run_all(&rt, &list[..n])
 }

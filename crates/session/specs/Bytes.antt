@@ -1,13 +1,14 @@
 -- A session, byte by byte of its input.
 -- Assumes nothing.
-use Rattle.std.specs.Prelude.{Bool, List, [], ◌∷◌, ℕ, ◌+◌, leb}
+use Rattle.std.specs.Prelude.{◌≡◌, Bool, List, [], ◌∷◌, ℕ, ◌+◌, leb}
 use Rattle.digits.specs.Choice.{pick}
 use Rattle.script.specs.Input.{Taken, taken_of, end_of}
 use Rattle.script.specs.declared.input.Reader.{Reader}
 use Rattle.script.specs.declared.turns.Turn.{Turn}
 use Rattle.answers.specs.Answers.{Page, room_of}
 use Rattle.answers.specs.declared.Answer.{Answer}
-use Rattle.turns.specs.Turns.{Memory, leaves, answers_of, printed}
+use Rattle.turns.specs.Turns.{Memory, memory, leaves, answers_of, printed}
+use Rattle.session.specs.declared.Session.{Session as Held}
 
 -- all that a session holds: the reader, and what the turns act on
 pub record Session : Type 0 where
@@ -16,6 +17,15 @@ pub record Session : Type 0 where
 
 abbrev pub session : Reader → Memory → Session
 session r m = record { reader = r; memory = m }
+
+-- a session of the code's
+abbrev pub held : Held → Session
+held s = session s.reader (memory s.pool.now s.map.now)
+
+-- the same pool and the same map
+pub record Same (s s' : Held) : Type 0 where
+  pub pool : s'.pool.ghost_name ≡ s.pool.ghost_name
+  pub map : s'.map.ghost_name ≡ s.map.ghost_name
 
 -- what a byte of the input does
 abbrev pub taken : ℕ → Session → Taken

@@ -4,6 +4,7 @@
 ghost use Rattle.std.specs.Prelude.{◌≡◌, replicate};
 ghost use Rattle.plan.specs.Plans.{outcome};
 ghost use Rattle.listing.specs.Listings.{list_of};
+ghost use Rattle.answers.specs.Answers.{on};
 ghost use Rattle.turns.specs.Turns.{acted, memory, list_answers, printed, cut_turn, turned};
 
 use answers::{Answer, Page};
@@ -20,7 +21,8 @@ const EADR: u64 = Generation::Eadr as u64;
 // A listing of the whole pool.
 #[tactic(auto, using(crate::proofs::Pages::listing_printed))]
 fn list(pool: &[u64], page: &mut Page)
-    ensures { page.new ≡ printed (list_answers (list_of pool.now 0 (replicate 256 0) (replicate 256 0))) page.old }
+    ensures same { page.new.bytes.ghost_name ≡ page.old.bytes.ghost_name }
+    ensures page { on page.new ≡ printed (list_answers (list_of pool.now 0 (replicate 256 0) (replicate 256 0))) (on page.old) }
 {
     let mut keys = [0; ENTRIES];
     let mut values = [0; ENTRIES];
@@ -37,7 +39,8 @@ fn cut(
     planned: Result<Plan, Refusal>,
     stores: usize,
 )
-    ensures { acted pool.new map.new page.new ≡ cut_turn (outcome planned) stores (memory pool.old map.old) page.old }
+    ensures same { page.new.bytes.ghost_name ≡ page.old.bytes.ghost_name }
+    ensures acted { acted pool.new map.new (on page.new) ≡ cut_turn (outcome planned) stores (memory pool.old map.old) (on page.old) }
 {
     let plan = planned.unwrap_or(Plan::none(Effect::Nothing));
     let made = plan::run(pool, plan, stores);
@@ -53,7 +56,8 @@ fn cut(
 // Carries a turn out. Its answer goes onto a page.
 #[tactic(auto, using(crate::proofs::Given::stores_given, crate::proofs::Given::value_given), unfolding(crate::specs::Turns::leaves, crate::specs::Turns::answers_of))]
 pub fn perform(turn: Turn, pool: &mut [u64], map: &mut [u8], page: &mut Page)
-    ensures { acted pool.new map.new page.new ≡ turned turn (memory pool.old map.old) page.old }
+    ensures same { page.new.bytes.ghost_name ≡ page.old.bytes.ghost_name }
+    ensures acted { acted pool.new map.new (on page.new) ≡ turned turn (memory pool.old map.old) (on page.old) }
 {
     match turn {
         Turn::Put(key, value) => {

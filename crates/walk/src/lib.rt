@@ -4,7 +4,7 @@
 ghost use Rattle.std.specs.Prelude.{◌≡◌, ◌+◌, ◌<◌, ◌≤◌};
 ghost use Rattle.refusals.specs.declared.Refusal.TheVariants.{Damage};
 ghost use Rattle.pool.specs.Refs.{Within};
-ghost use Rattle.walk.specs.Faults.{out_of_range, bad_header};
+ghost use Rattle.walk.specs.Faults.{reason_number, out_of_range, bad_header};
 ghost use Rattle.walk.specs.Walks.{head_of, Between, root, below, end_of, walk_to, walk_of, children_of, place_of, lowest_child, other_child, lowest_of};
 
 use digits::Header;
@@ -38,6 +38,17 @@ pub enum Reason {
     Branch = 3,
     // All else.
     Form = 4,
+}
+
+// A reason by its number.
+impl From<Reason> for u64 {
+    ghost from_gives = { λ reason k. k ≡ reason_number reason };
+
+    fn from(reason: Reason) -> u64
+        ensures { result ≡ reason_number reason }
+    {
+        reason as u64
+    }
 }
 
 // Where damage was met and why: a word of the pool, and a reason.

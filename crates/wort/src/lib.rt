@@ -12,8 +12,8 @@ ghost use Rattle.opening.specs.Openings.{PlanOpenGives, opened, left as left_ope
 ghost use Rattle.handing.specs.Plans.{plan_in, FinishInGives, planned, HandedOut};
 
 use finding::Found;
-use handing::{hand_out, lay_plan, taken_in};
-use plan::{Effect, Plan, Stores};
+use handing::{hand_answer, hand_on, taken_in};
+use plan::{Plan, Stores};
 use refusals::Refusal;
 
 #[unsafe(no_mangle)]
@@ -119,22 +119,7 @@ pub extern "C" fn wort_plan_put(
 {
     let mut stores = Stores::new();
     let laid = planning::lay_put_for(&mut stores, pool, map, key, value, generation);
-    let count = stores.len(); // none where it is refused
-    let first = Plan::all_but_last(count);
-    let (fences, effect) = match laid {
-        Ok((generation, effect)) => (Plan::fences(generation, first, count), effect),
-        Err(_) => (0, Effect::Nothing),
-    };
-    lay_plan(
-        plan,
-        count,
-        first,
-        fences,
-        effect,
-        stores.words(),
-        stores.values(),
-    );
-    refusals::number(&laid)
+    hand_on(plan, Plan::all_but_last(stores.len()), &stores, laid)
 }
 
 #[unsafe(no_mangle)]
@@ -146,14 +131,16 @@ pub extern "C" fn wort_plan_delete(
 ) -> u64
     ensures { HandedOut (PlanDeleteGives pool.now key generation) (planned result plan.new) }
 {
-    hand_out(plan, planning::plan_delete(pool, key, generation))
+    let mut stores = Stores::new();
+    let laid = planning::lay_delete_for(&mut stores, pool, key, generation);
+    hand_on(plan, Plan::the_switch(stores.len()), &stores, laid)
 }
 
 #[unsafe(no_mangle)]
 pub extern "C" fn wort_plan_open(pool: &[u64], generation: u64, plan: &mut [u64; 53]) -> u64
     ensures { HandedOut (PlanOpenGives pool.now generation) (planned result plan.new) }
 {
-    hand_out(plan, opening::plan_open(pool, generation))
+    hand_answer(plan, opening::plan_open(pool, generation))
 }
 
 #[unsafe(no_mangle)]

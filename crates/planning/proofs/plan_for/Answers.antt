@@ -8,7 +8,7 @@ use Rattle.planning.proofs.plan_for.Goals as goal
 
 pub returns-in_err-effect : goal.returns-in_err-effect
 returns-in_err-effect g c = λ d by none grouped laid.
-    let a : Ok c.in_ok-generation.generation ≡ generation_of c.args.generation = search rules in
+    let a : Ok c.in_ok-try_from.field-0 ≡ generation_of c.args.generation = search rules in
     let h : FnOnceReturnsAtMut g.L.FnOnce c.args.lay [] c.lay.result c.lay.new.arg2 = search rules in
     let q = laid _ _ h in
     let p = err_from_is_err_and c.from_residual-in_err-effect.result c.from_residual-in_err-effect.ensures.1 in
@@ -16,7 +16,7 @@ returns-in_err-effect g c = λ d by none grouped laid.
 
 pub returns : goal.returns
 returns g c = λ d by none grouped laid.
-    let a : Ok c.in_ok-generation.generation ≡ generation_of c.args.generation = search rules in
+    let a : Ok c.in_ok-try_from.field-0 ≡ generation_of c.args.generation = search rules in
     let h : FnOnceReturnsAtMut g.L.FnOnce c.args.lay [] c.lay.result c.lay.new.arg2 = search rules in
     let q = laid _ _ h in
     let k : FnReturns g.G.Fn c.args.group (c.len.result, tt) c.group-first.result = search rules in
